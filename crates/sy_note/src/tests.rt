@@ -1,0 +1,39 @@
+// The texts, as a person reads them.
+
+use super::*;
+use std::test::Fail;
+
+#[test]
+fn lines(rt: HostRuntime) -> Result<(), Fail> {
+    let table: [(u32, u32, Code, &[u8]); 4] = [
+        (1, 1, Code::NotBuilt, b"1:1: not built"),
+        (1, 20, Code::Lexical, b"1:20: no token"),
+        (6, 41, Code::ThreadCapture, b"6:41: thread capture"),
+        (
+            4294967295,
+            1048576,
+            Code::NotInHost,
+            b"4294967295:1048576: only in a group or kernel",
+        ),
+    ];
+    for (line_number, column, code, text) in table {
+        let spot = Spot {
+            line: line_number,
+            column,
+        };
+        let got = line(rt.alloc(), &Diagnostic { spot, code })?;
+        assert_eq!(rt; got.as_slice(), text);
+    }
+    assert_eq!(rt;
+        line(
+            rt.alloc(),
+            &Diagnostic {
+                spot: Spot::START,
+                code: Code::Grammar
+            }
+        )?
+        .as_slice(),
+        b"1:1: not in the grammar".as_slice()
+    );
+    Ok(())
+}
