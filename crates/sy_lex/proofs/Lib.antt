@@ -1,0 +1,11 @@
+pub mod Comments
+pub mod FirstBytes
+pub mod Fronts
+pub mod Integers
+pub mod Literals
+pub mod Marks
+pub mod Readings
+pub mod Says
+pub mod Strings
+pub mod Tables
+pub mod Texts

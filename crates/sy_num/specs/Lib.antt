@@ -1,0 +1,3 @@
+pub mod Kinds
+pub mod Scalars
+pub mod Operators
