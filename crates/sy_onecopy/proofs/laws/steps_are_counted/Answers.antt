@@ -1,0 +1,5 @@
+use Rattle.sy_onecopy.proofs.Steps.{steps_counted}
+use Rattle.sy_onecopy.proofs.laws.steps_are_counted.Goals as goal
+
+pub returns : goal.returns
+returns c = steps_counted

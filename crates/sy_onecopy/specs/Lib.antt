@@ -1,0 +1,9 @@
+pub mod Each
+pub mod State
+pub mod Before
+pub mod Outcome
+pub mod Settle
+pub mod Step
+pub mod Sequence
+pub mod Copies
+pub mod Laws

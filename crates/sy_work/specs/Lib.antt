@@ -1,0 +1,5 @@
+pub mod Programs
+pub mod Answers
+pub mod Stops
+pub mod Inputs
+pub mod Moves
