@@ -1,0 +1,4 @@
+pub mod Counts
+pub mod Changed
+pub mod Index
+pub mod Kept

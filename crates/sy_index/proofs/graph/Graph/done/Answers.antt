@@ -1,0 +1,39 @@
+-- A ready node waits for none, and what is kept stays right once it is taken out.
+use Rattle.std.proofs.Common.{◌≡◌, ap, sym, ◌∙◌, subst, List, Option, None, true, set}
+use Rattle.std.proofs.lemmas.Option.{slice_get_within}
+use Rattle.sy_graph.specs.Before.{is_ready}
+use Rattle.sy_graph.specs.declared.node.Node.{Node}
+use Rattle.sy_index.specs.declared.slot.Slot.{Slot}
+use Rattle.sy_index.specs.Listed.{listed}
+use Rattle.sy_index.specs.Slots.{IsIndex, told, nodes_of}
+use Rattle.sy_index.proofs.Kept.{ready_slot, index_done, nodes_of-told, nodes_of-taken}
+use Rattle.sy_index.proofs.graph.Graph.done.Goals as goal
+
+pub take-requires : goal.take-requires
+take-requires c =
+    let r = ready_slot _ _ _ c.args.n c.self.invariant (subst (λ (v : List (Option Node)). is_ready v c.args.n ≡ true) (sym c.self.view_is) c.requires) in
+    slice_get_within _ c.args.n _ r.1
+
+pub invariant_of-self : goal.invariant_of-self
+invariant_of-self c =
+    let r = ready_slot c.self.inside.slots _ _ c.args.n c.self.invariant (subst (λ (v : List (Option Node)). is_ready v c.args.n ≡ true) (sym c.self.view_is) c.requires) in
+    let same : r.0 ≡ c.in-Some.slot = (let a = r.1 in let b = c.in-Some.ensures.taken in cc) in
+    let free : c.in-Some.slot.waits ≡ 0 = sym (ap (λ (s : Slot). s.waits) same) ∙ r.2 in
+    let all : c.tell_all.new.self ≡ told (set c.self.inside.slots c.args.n None) c.in-Some.slot.next = (let a = c.tell_all.ensures in let b = c.take.ensures.left in let d = c.numbers.ensures in cc) in
+    subst (λ (v : List (Option Slot)). IsIndex v (listed c.delist.new.roots) (listed c.delist.new.queues)) (sym all)
+    (index_done c.self.inside.slots (listed c.self.inside.roots) (listed c.self.inside.queues) _ _ c.args.n c.in-Some.slot c.self.invariant c.in-Some.ensures.taken free c.delist.ensures.roots_kept c.delist.ensures.queues_kept)
+
+pub returns-in-Some : goal.returns-in-Some
+returns-in-Some c =
+    let all : c.tell_all.new.self ≡ told (set c.self.inside.slots c.args.n None) c.in-Some.slot.next = (let a = c.tell_all.ensures in let b = c.take.ensures.left in let d = c.numbers.ensures in cc) in
+    ap nodes_of all ∙ nodes_of-told _ _ ∙ nodes_of-taken _ _ ∙ ap (λ (v : List (Option Node)). set v c.args.n None) c.self.view_is
+
+pub invariant_of-self-in-None : goal.invariant_of-self-in-None
+invariant_of-self-in-None c =
+    let r = ready_slot c.self.inside.slots _ _ c.args.n c.self.invariant (subst (λ (v : List (Option Node)). is_ready v c.args.n ≡ true) (sym c.self.view_is) c.requires) in
+    absurd (let a = r.1 in let b = c.in-None.ensures.taken in cc)
+
+pub returns-in-None : goal.returns-in-None
+returns-in-None c =
+    let r = ready_slot c.self.inside.slots _ _ c.args.n c.self.invariant (subst (λ (v : List (Option Node)). is_ready v c.args.n ≡ true) (sym c.self.view_is) c.requires) in
+    absurd (let a = r.1 in let b = c.in-None.ensures.taken in cc)

@@ -1,0 +1,61 @@
+// Lists of node numbers by a key, a root or a queue.
+
+ghost use Rattle.std.specs.Prelude.{◌≡◌, ◌≢◌, ℕ, [], OnOk};
+ghost use Rattle.sy_index.specs.Lists.{Has};
+ghost use Rattle.sy_index.specs.Listed.{listed};
+
+use std::alloc::{AllocError, Global};
+use std::collections::BTreeMap;
+
+/// For each key a list of numbers, most of them empty.
+#[derive(Drop)]
+pub struct Lists {
+    pub alloc: Global,
+    pub lists: BTreeMap<u32, Vec<u32>>,
+}
+
+impl Lists {
+    pub fn new(alloc: Global) -> Lists
+        ensures { (k : ℕ) → listed result k ≡ [] }
+    {
+        Lists {
+            alloc,
+            lists: BTreeMap::new(alloc),
+        }
+    }
+
+    /// The numbers of the key.
+    pub fn at(&self, key: u32) -> &[u32]
+        ensures { result.now ≡ listed self.now key }
+    {
+        match self.lists.get(&key) {
+            Some(list) => list.as_slice(),
+            None => &[],
+        }
+    }
+
+    /// Adds a number to those of the key.
+    pub fn push(&mut self, key: u32, n: u32) -> Result<(), AllocError>
+        ensures named { OnOk result (Has (listed self.new key) n) }
+        ensures kept { (k m : ℕ) → Has (listed self.old k) m → Has (listed self.new k) m }
+    {
+        match self.lists.get_mut(&key) {
+            Some(list) => list.push(n)?,
+            None => {
+                let mut list = Vec::new(self.alloc);
+                list.push(n)?;
+                self.lists.insert(key, list)?;
+            }
+        }
+        Ok(())
+    }
+
+    /// Takes a number from those of the key.
+    pub fn remove(&mut self, key: u32, n: u32)
+        ensures { (k m : ℕ) → m ≢ n → Has (listed self.old k) m → Has (listed self.new k) m }
+    {
+        if let Some(list) = self.lists.get_mut(&key) {
+            list.retain(|m| *m != n);
+        }
+    }
+}
