@@ -1,0 +1,9 @@
+pub mod Reading
+pub mod Texts
+pub mod Running
+pub mod Stretches
+pub mod Telling
+pub mod Commands
+pub mod Ran
+pub mod Numerals
+pub mod Items

@@ -1,0 +1,84 @@
+-- What a run that was written leaves.
+use Rattle.std.proofs.Common.{◌≡◌, ℕ, ◌≤◌, Bool, true, false, List, [], ◌++◌, length, Option, IfSome, ◌⊎◌, inl, inr, refl, sym, ap, ◌∙◌, subst}
+use Rattle.std.specs.Prelude.{if◌then◌else◌, All}
+use Rattle.std.specs.Io.KnownBytes.{Appends}
+use Rattle.sy_io.specs.Faults.{Rose}
+use Rattle.sy_io.specs.Known.{AppendsFront}
+use Rattle.sy_work.specs.declared.endings.Ending.{Ending}
+use Rattle.sy_work.specs.declared.endings.Ending.TheVariants as ending
+use Rattle.sy_onecopy.specs.Sequence.{IsRun}
+use Rattle.sy_top.specs.declared.call.Ready.{Ready}
+use Rattle.sy_top.specs.declared.jobs.Settings.{Settings}
+use Rattle.sy_top.specs.declared.notes.Ended.{Ended}
+use Rattle.sy_top.specs.declared.notes.Ended.TheVariants as ended
+use Rattle.sy_top.specs.declared.runs.Run.{Run}
+use Rattle.sy_top.specs.Notes.{line_of, tail_of, note_of, has_run, ended_by}
+use Rattle.sy_top.specs.Headline.{Outside, Told, Tells, IsRunOf, Ran, Cause, HasCause, commands, source_limit}
+use Rattle.sy_top.specs.Judged.{IsReady, Writes}
+
+-- it was written whole, or writing met a fault
+whole_or_fault : (old new : Option (List ℕ)) (before after : ℕ) (end : Ending) (output : List ℕ) (e : Ended) → Writes old new before after end output e →
+    ((e ≡ ended.WriteFault) × AppendsFront old new output × Rose before after) ⊎ ((e ≡ ended_by end) × Appends old new output)
+whole_or_fault old new before after end output ended.WriteFault h = inl (refl, h.0, h.1)
+whole_or_fault old new before after end output e h = inr h
+
+run_began : (end : Ending) → has_run (ended_by end) ≡ true
+run_began (ending.Returned v) = refl
+run_began (ending.Terminated w) = refl
+run_began (ending.KernelFailed e) = refl
+run_began (ending.Trapped t) = refl
+run_began (ending.TurnsSpent t l) = refl
+run_began ending.Stuck = refl
+run_began ending.OutputFull = refl
+run_began ending.HistoryFull = refl
+
+told_whole : (set : Settings) (e : Ended) (order : List ℕ) (c k : ℕ) → has_run e ≡ true → line_of e ++ tail_of set order c k ≡ note_of set e order c k
+unfolding note_of
+told_whole set e order c k h = sym (ap (λ v. line_of e ++ (if v then tail_of set order c k else [])) h)
+
+cause_of : (o : Outside) (set : Settings) (run : Run) (end : Ending) → Ran o set run end → Cause o set run (ended_by end)
+cause_of o set run (ending.Returned v) r = r
+cause_of o set run (ending.Terminated w) r = r
+cause_of o set run (ending.KernelFailed e) r = r
+cause_of o set run (ending.Trapped t) r = r
+cause_of o set run (ending.TurnsSpent t l) r = r
+cause_of o set run ending.Stuck r = r
+cause_of o set run ending.OutputFull r = r
+cause_of o set run ending.HistoryFull r = r
+
+module _ (o : Outside) (set : Settings) (run : Run) (ready : Ready) (bytes : List ℕ) (is : IsReady set bytes ready) (whole : IfSome o.left (λ left. bytes ≡ left)) (within : length bytes ≤ source_limit) (order : run.order.items ≡ ready.order.items) (copies : run.copies ≡ ready.copies)
+    (told : Told o run.note (line_of run.ended ++ ready.tail.items)) where
+  tail_is : ready.tail.items ≡ tail_of set run.order.items (commands is.program run.order.items) run.copies
+  tail_is = is.tail ∙ ap (λ l. tail_of set l (commands is.program l) ready.copies) (sym order) ∙ ap (tail_of set run.order.items (commands is.program run.order.items)) (sym copies)
+
+  is_run_of : has_run run.ended ≡ true → IsRunOf o set is.program run ready.ending ready.output.items
+  is_run_of h = record {
+    bytes = bytes;
+    whole = whole;
+    within = within;
+    accepted = is.accepted;
+    makes = subst (λ l. IsRun is.program l ready.ending ready.output.items run.copies) (sym order) (subst (IsRun is.program ready.order.items ready.ending ready.output.items) (sym copies) is.run);
+    main_alone = subst (All (λ t. t ≡ 0)) (sym order) is.main_alone;
+    told = subst (Told o run.note) (ap (λ l. line_of run.ended ++ l) tail_is ∙ told_whole set run.ended run.order.items (commands is.program run.order.items) run.copies h) told;
+  }
+
+  by_case : ((run.ended ≡ ended.WriteFault) × AppendsFront o.out_old o.out_new ready.output.items × Rose o.out_before o.out_after) ⊎ ((run.ended ≡ ended_by ready.ending) × Appends o.out_old o.out_new ready.output.items) → HasCause o set run
+  by_case (inl (e, front, rose)) =
+      subst (Cause o set run) (sym e) (record {
+        program = is.program;
+        end = ready.ending;
+        output = ready.output.items;
+        is_run = is_run_of (ap has_run e);
+        written = front;
+        fault = rose;
+      })
+  by_case (inr (e, all)) =
+      subst (Cause o set run) (sym e) (cause_of o set run ready.ending (record {
+        program = is.program;
+        output = ready.output.items;
+        is_run = is_run_of (ap has_run e ∙ run_began ready.ending);
+        written = all;
+      }))
+
+  pub has_cause : Writes o.out_old o.out_new o.out_before o.out_after ready.ending ready.output.items run.ended → HasCause o set run
+  has_cause w = by_case (whole_or_fault _ _ _ _ ready.ending ready.output.items run.ended w)

@@ -1,0 +1,71 @@
+-- What is known of a source before its output is written.
+use Rattle.std.specs.Prelude.{◌≡◌, ℕ, Bool, true, false, List, Option, All}
+use Rattle.std.specs.Io.KnownBytes.{Appends}
+use Rattle.sy_io.specs.Faults.{Rose}
+use Rattle.sy_io.specs.Known.{AppendsFront}
+use Rattle.sy_work.specs.declared.endings.Ending.{Ending}
+use Rattle.sy_io.specs.declared.ReadStop.{ReadStop}
+use Rattle.sy_io.specs.declared.ReadStop.TheVariants.{TooLong, Fault, Memory}
+use Rattle.sy_note.specs.declared.Diagnostic.{Diagnostic}
+use Rattle.sy_work.specs.Programs.{Program}
+use Rattle.sy_onecopy.specs.Sequence.{IsRun}
+use Rattle.sy_top.specs.declared.call.Judged.{Judged}
+use Rattle.sy_top.specs.declared.call.Judged.TheVariants.{Ran, Refused}
+use Rattle.sy_top.specs.declared.call.Ready.{Ready}
+use Rattle.sy_top.specs.declared.jobs.Settings.{Settings}
+use Rattle.sy_top.specs.declared.runs.Note.{Note}
+use Rattle.sy_top.specs.declared.runs.Note.TheVariants as note
+use Rattle.sy_top.specs.declared.notes.Ended.{Ended}
+use Rattle.sy_top.specs.declared.notes.Ended.TheVariants as ended
+use Rattle.sy_top.specs.declared.form.Piece.{Piece}
+use Rattle.sy_top.specs.Sums.{sums_program}
+use Rattle.sy_top.specs.Headline.{Runs, not_built, commands}
+use Rattle.sy_top.specs.Notes.{line_of, tail_of, ended_by}
+
+-- the source is accepted, and this is its run
+pub record IsReady (set : Settings) (bytes : List ℕ) (ready : Ready) : Type 0 where
+  pub program : Program
+  pub accepted : Runs set set.job bytes program
+  pub run : IsRun program ready.order.items ready.ending ready.output.items ready.copies
+  pub main_alone : All (λ t. t ≡ 0) ready.order.items
+  pub line : ready.line.items ≡ line_of (ended_by ready.ending)
+  pub tail : ready.tail.items ≡ tail_of set ready.order.items (commands program ready.order.items) ready.copies
+
+-- the diagnostic of a form that is not built, with its note
+abbrev pub IsNotBuilt : Diagnostic → List ℕ → Type 0
+IsNotBuilt d note = (d ≡ not_built) × (note ≡ line_of (ended.Refused d))
+
+-- this is the run of these sums
+pub record IsRunOfSums (set : Settings) (pieces : List Piece) (ready : Ready) : Type 0 where
+  pub run : IsRun (sums_program set.turns pieces) ready.order.items ready.ending ready.output.items ready.copies
+  pub main_alone : All (λ t. t ≡ 0) ready.order.items
+  pub line : ready.line.items ≡ line_of (ended_by ready.ending)
+  pub tail : ready.tail.items ≡ tail_of set ready.order.items (commands (sums_program set.turns pieces) ready.order.items) ready.copies
+
+abbrev pub Judges : Settings → List ℕ → Judged → Type 0
+Judges set bytes (Ran ready) = IsReady set bytes ready
+Judges set bytes (Refused d note) = (d ≡ not_built) × ((p : Program) → Runs set set.job bytes p → ⊥) × (note.items ≡ line_of (ended.Refused d))
+
+-- the answer where the source was not read
+abbrev pub ended_by_stop : ReadStop → Ended
+ended_by_stop TooLong = ended.SourceTooLong
+ended_by_stop Fault = ended.ReadFault
+ended_by_stop Memory = ended.Memory
+
+-- the output was written whole, or a part of it from its front
+abbrev pub Writes : Option (List ℕ) → Option (List ℕ) → ℕ → ℕ → Ending → List ℕ → Ended → Type 0
+Writes old new before after end output ended.WriteFault = AppendsFront old new output × Rose before after
+Writes old new before after end output answer = (answer ≡ ended_by end) × Appends old new output
+
+-- ---- what is noted of standard error
+
+abbrev pub is_failed : Note → Bool
+is_failed note.Failed = true
+is_failed n = false
+
+-- of two texts that are told one after the other
+abbrev pub joined : Note → Note → Note
+joined note.Nothing n = n
+joined note.Failed n = note.Failed
+joined note.Written note.Failed = note.Failed
+joined note.Written n = note.Written

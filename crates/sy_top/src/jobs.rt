@@ -1,0 +1,23 @@
+// What the program is told to do.
+
+/// What the program is to do. Of these only [`Job::Serial`] is built so far.
+#[derive(Clone, Copy, PartialEq, Eq, Debug)]
+pub enum Job {
+    Check,
+    Serial,
+    Run,
+    SelfTest,
+    Replay,
+}
+
+/// What the words say: the job, and the number or the switch of each option.
+#[derive(Clone, Copy, PartialEq, Eq, Debug)]
+pub struct Settings {
+    pub job: Job,
+    pub workers: u32,
+    pub turns: u64,
+    pub seed: u32,
+    pub groups: u32,
+    pub stats: bool,
+    pub trace: bool,
+}

@@ -1,0 +1,6 @@
+#include <iostream>
+
+// Prints 42 and -3.
+int main() {
+    std::cout << 40 + 2 << 7 - 10;
+}
