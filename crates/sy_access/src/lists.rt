@@ -32,6 +32,13 @@ impl Values {
         self.items.as_slice()
     }
 
+    /// The vector that it was made of, which takes no memory.
+    pub fn into_items(self) -> Vec<i128>
+        ensures { result.items ≡ self }
+    {
+        self.items
+    }
+
     /// The same numbers in a list of their own.
     pub fn copy(&self, alloc: Global) -> Result<Values, AllocError>
         ensures { IfOk result (λ values. values ≡ self.now) }
