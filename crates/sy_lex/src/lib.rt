@@ -11,6 +11,7 @@ mod scan;
 mod tests;
 
 use scan::{Front, look};
+use smallvec::SmallVec;
 use std::alloc::{AllocError, Global};
 use std::marker::Model;
 use sy_note::{Code, Diagnostic, FrontStop, Spot};
@@ -27,31 +28,56 @@ pub enum Row {
     Mark,
 }
 
-/// The bytes of a token, as the source has them.
+/// Texts of up to so many bytes lie inside their token.
+const SHORT: usize = 16;
+
+/// Where the bytes of a text lie: in a vector, or inside where they are few.
+#[derive(Debug, Drop)]
+enum Kept {
+    Vector(Vec<u8>),
+    Inside(SmallVec<u8, SHORT>),
+}
+
+/// The bytes of a token, as the source has them. Those of a short one take no allocation.
 #[derive(Debug, Drop)]
 pub struct Text {
-    items: Vec<u8>,
+    kept: Kept,
 }
 
 impl Model for Text {
     ghost use Rattle.std.specs.Prelude.{List, ℕ};
+    ghost use Rattle.sy_lex.specs.Texts.{kept_bytes};
 
     ghost Value = { List ℕ };
 
-    ghost view = { λ t. t.items.items };
+    ghost view = { λ t. kept_bytes t.kept };
 }
 
 impl Text {
     pub fn of(items: Vec<u8>) -> Text
         ensures { result ≡ items.items }
     {
-        Text { items }
+        Text {
+            kept: Kept::Vector(items),
+        }
+    }
+
+    /// The same bytes in a text of its own.
+    pub fn copied(alloc: Global, bytes: &[u8]) -> Result<Text, AllocError>
+        ensures { IfOk result (λ text. text ≡ bytes.now) }
+    {
+        Ok(Text {
+            kept: Kept::Inside(SmallVec::from_slice(alloc, bytes)?),
+        })
     }
 
     pub fn items(&self) -> &[u8]
         ensures { result.now ≡ self.now }
     {
-        self.items.as_slice()
+        match &self.kept {
+            Kept::Vector(items) => items.as_slice(),
+            Kept::Inside(items) => items.as_slice(),
+        }
     }
 }
 
@@ -120,7 +146,7 @@ fn keep(
     requires { from + length front.now < 2 ^ 32 }
     ensures { OnOk result (out.new.items ≡ out.old.items ++ token_at row front.now from spot ∷ []) }
 {
-    let text = Text::of(Vec::from_slice(alloc, front)?);
+    let text = Text::copied(alloc, front)?;
     let word = Word { row, text };
     let to = from + front.len() as u32;
     out.push(Token {

@@ -309,5 +309,12 @@ fn refusals(rt: HostRuntime) -> Result<(), Fail> {
 fn texts(rt: HostRuntime) -> Result<(), Fail> {
     let text = Text::of(Vec::from_slice(rt.alloc(), b"ab")?);
     assert_eq!(rt; text.items(), b"ab".as_slice());
+    for bytes in [
+        b"".as_slice(),
+        b"0123456789abcdef".as_slice(),
+        b"0123456789abcdefg".as_slice(),
+    ] {
+        assert_eq!(rt; Text::copied(rt.alloc(), bytes)?.items(), bytes);
+    }
     Ok(())
 }
