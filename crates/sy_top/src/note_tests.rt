@@ -23,7 +23,7 @@ fn notes(rt: HostRuntime) -> Result<(), Fail> {
         line: 1,
         column: 20,
     };
-    let cases: [(Ended, &str); 30] = [
+    let cases: [(Ended, &str); 31] = [
         (Ended::Checked, ""),
         (Ended::Returned(7), ""),
         (Ended::BadWords, "bad words"),
@@ -113,6 +113,7 @@ fn notes(rt: HostRuntime) -> Result<(), Fail> {
             Ended::Illegal(18446744073709551615),
             "illegal step 18446744073709551615",
         ),
+        (Ended::Unfinished, "trace ends before the run"),
     ];
     for (ended, text) in cases {
         let note = ended.line(rt.alloc())?;
