@@ -1,6 +1,7 @@
 pub mod Reading
 pub mod Texts
-pub mod Running
+pub mod Alone
+pub mod Hosts
 pub mod Stretches
 pub mod Telling
 pub mod Commands

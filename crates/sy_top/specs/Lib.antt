@@ -6,3 +6,4 @@ pub mod Notes
 pub mod Headline
 pub mod Judged
 pub mod Trace
+pub mod Hosts

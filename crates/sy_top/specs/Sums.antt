@@ -91,14 +91,3 @@ sums_program turns pieces = record {
   next = λ body captures answers. ask_here (nat_lt (length answers) turns) (operand_at (after_sums (length answers) pieces));
   outcome = λ command inputs. Wrote [];
 }
-
-abbrev pub ask_of_next : Next → Ask
-ask_of_next (next.Print z) = Print (signed_decimal z)
-ask_of_next (next.Overflow line) = Halt (Trapped Overflow line)
-ask_of_next (next.TurnsSpent line) = Halt (TurnsSpent line)
-ask_of_next next.Finish = Finish (pos 0)
-
--- the number was printed, or there was no room for it and nothing changed
-abbrev pub Prints : Bool → List ℕ → List ℕ → ℤ → Type 0
-Prints true old new z = (new ≡ old ++ signed_decimal z) × (nat_le (length old + length (signed_decimal z)) (2 ^ 24) ≡ true)
-Prints false old new z = (new ≡ old) × (nat_le (length old + length (signed_decimal z)) (2 ^ 24) ≡ false)

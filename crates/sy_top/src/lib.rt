@@ -15,6 +15,7 @@ ghost use Rattle.sy_top.specs.Words.{words_of};
 mod call;
 mod form;
 mod front;
+mod host;
 mod jobs;
 mod notes;
 mod runs;

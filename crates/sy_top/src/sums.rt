@@ -1,15 +1,11 @@
-// What a source of the small form asks, and its run.
+// The sums of a source of the small form.
 
-ghost use Rattle.std.specs.Prelude.{◌≡◌, ◌+◌, ◌<◌, ◌≤◌, length, IfOk, IfSome, All};
+ghost use Rattle.std.specs.Prelude.{◌≡◌, ◌+◌, ◌<◌, ◌≤◌, length, IfSome};
 ghost use Rattle.sy_num.specs.Scalars.{Scalar};
-ghost use Rattle.sy_onecopy.specs.Sequence.{IsRun};
 ghost use Rattle.sy_top.specs.Sums as spec;
 
 use crate::form::Piece;
-use itoa::Buffer;
-use std::alloc::{AllocError, Global};
 use sy_num::{BinOp, Kind, Undefined, Value, apply};
-use sy_work::{Cause, Ending, HostTrap};
 
 /// A sum so far: its value, or the line of the operator that overflowed.
 #[derive(Clone, Copy)]
@@ -31,14 +27,6 @@ pub struct Operand {
     pub line: u32,
     pub given: Given,
     pub parts: usize,
-}
-
-/// How a run ended, with its order of steps and its output.
-#[derive(Drop)]
-pub struct End {
-    pub ending: Ending,
-    pub order: Vec<u32>,
-    pub output: Vec<u8>,
 }
 
 /// The value of a decimal literal without a suffix (C++17, "Integer literals").
@@ -129,7 +117,7 @@ fn whole_sum(line: u32, first: i64, rest: &[Piece]) -> Operand
 
 /// The sum at the front, if there is one.
 #[tactic(auto, unfolding(crate::specs::Sums::operand_at))]
-fn operand_at(pieces: &[Piece]) -> Option<Operand>
+pub fn operand_at(pieces: &[Piece]) -> Option<Operand>
     ensures value { result ≡ spec.operand_at pieces.now }
     ensures within { IfSome result (λ o. (0 < o.parts) × (o.parts ≤ length pieces.now)) }
 {
@@ -139,98 +127,12 @@ fn operand_at(pieces: &[Piece]) -> Option<Operand>
     }
 }
 
-/// What main asks next: to print this number, to halt at this line, or to finish.
-#[derive(Clone, Copy)]
-enum Next {
-    Print(i128),
-    Overflow(u32),
-    TurnsSpent(u32),
-    Finish,
-}
-
-/// What main asks at this sum.
-fn next_at(in_turns: bool, whole: Option<Operand>) -> Next
-    ensures { spec.ask_of_next result ≡ spec.ask_here in_turns whole }
-{
-    let Some(whole) = whole else {
-        return Next::Finish;
-    };
-    match whole.given {
-        Given::Overflow(line) => Next::Overflow(line),
-        Given::Number(number) => {
-            if in_turns {
-                Next::Print(number)
-            } else {
-                Next::TurnsSpent(whole.line)
-            }
-        }
-    }
-}
-
 /// How many parts the sum at the front has.
-fn parts_of(whole: &Option<Operand>) -> usize
+pub fn parts_of(whole: &Option<Operand>) -> usize
     ensures { result ≡ spec.parts_of whole.now }
 {
     match whole {
         Some(whole) => whole.parts,
         None => 0,
     }
-}
-
-const MAX_STEPS: usize = 1 << 24;
-
-const MAX_OUTPUT: usize = 1 << 24;
-
-/// The number is appended, or the output is full.
-fn print(output: &mut Vec<u8>, number: i128) -> Result<bool, AllocError>
-    ensures { IfOk result (λ fits. spec.Prints fits output.old.items output.new.items number) }
-{
-    let mut digits = Buffer::new();
-    let text = digits.format(number);
-    if MAX_OUTPUT < output.len() + text.as_bytes().len() {
-        return Ok(false);
-    }
-    output.extend_from_slice(text.as_bytes())?;
-    Ok(true)
-}
-
-/// The run of a source of the form, in which main makes each step.
-pub fn run(alloc: Global, pieces: &[Piece], turns: u64) -> Result<End, AllocError>
-    ensures run { IfOk result (λ end. IsRun (spec.sums_program turns pieces.now) end.order.items end.ending end.output.items 0) }
-    ensures main_alone { IfOk result (λ end. All (λ t. t ≡ 0) end.order.items) }
-{
-    let mut rest = pieces;
-    let mut order: Vec<u32> = Vec::new(alloc);
-    let mut output = Vec::new(alloc);
-    let ending = loop {
-        if order.len() == MAX_STEPS {
-            break Ending::HistoryFull;
-        }
-        let whole = operand_at(rest);
-        let parts = parts_of(&whole);
-        let next = next_at((order.len() as u64) < turns, whole);
-        order.push(0)?;
-        match next {
-            Next::Finish => break Ending::Returned(0),
-            Next::Overflow(line) => {
-                break Ending::Trapped(HostTrap {
-                    thread: 0,
-                    line,
-                    cause: Cause::Overflow,
-                });
-            }
-            Next::TurnsSpent(line) => break Ending::TurnsSpent(0, line),
-            Next::Print(number) => {
-                if !print(&mut output, number)? {
-                    break Ending::OutputFull;
-                }
-                rest = rest.split_at(parts).1;
-            }
-        }
-    };
-    Ok(End {
-        ending,
-        order,
-        output,
-    })
 }
