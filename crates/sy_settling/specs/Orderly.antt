@@ -1,0 +1,62 @@
+-- Boards whose entries may not have settled yet.
+use Rattle.std.specs.Prelude.{◌≡◌, ℕ, Bool, true, false, not, ◌&&◌, ◌==◌, nat_lt, List, [], ◌∷◌, length, take, Option, Some, None, slice_get}
+use Rattle.std.specs.List.{list_any, list_all}
+use Rattle.sy_access.specs.declared.access.Need.{Need}
+use Rattle.sy_work.specs.declared.asks.Ask.{Ask}
+use Rattle.sy_work.specs.declared.asks.Ask.TheVariants.{ThrowQueue}
+use Rattle.sy_onecopy.specs.declared.Buffer.{Buffer}
+use Rattle.sy_onecopy.specs.declared.Entry.{Entry}
+use Rattle.sy_onecopy.specs.declared.Work.{Work}
+use Rattle.sy_onecopy.specs.declared.Work.TheVariants.{Node, Access, End}
+use Rattle.sy_onecopy.specs.declared.Stage.TheVariants.{Granted}
+use Rattle.sy_onecopy.specs.declared.Waits.{Waits}
+use Rattle.sy_onecopy.specs.declared.Waits.TheVariants.{OnEntry}
+use Rattle.sy_onecopy.specs.Before.{is_pending, is_held}
+use Rattle.sy_onecopy.specs.State.{Board}
+use Rattle.sy_onecopy.specs.Step.{whole}
+use Rattle.sy_onecopy.specs.Sequence.{is_clear}
+
+-- this entry stands at k
+abbrev pub IsAt : List Entry → ℕ → Entry → Type 0
+IsAt entries k e = slice_get entries k ≡ Some e
+
+-- this entry stands at k and is pending
+abbrev pub IsPendingAt : List Entry → ℕ → Entry → Type 0
+IsPendingAt entries k e = IsAt entries k e × (is_pending e.stage ≡ true)
+
+-- the thread that asked for the entry waits for its effect
+abbrev pub waiter : Work → Option ℕ
+waiter (Node n q c) = None
+waiter (Access t k) = Some t
+waiter (End t r) = Some t
+
+-- the needs are on buffers that are there
+unfoldable pub are_there : ℕ → List Need → Bool
+are_there count needs = list_all (λ n. nat_lt n.buffer count) needs
+
+-- the end of buffer r needs all elements of it
+pub record NeedsWhole (buffers : List Buffer) (r : ℕ) (needs : List Need) : Type 0 where
+  pub buffer : Buffer
+  pub found : slice_get buffers r ≡ Some buffer
+  pub all : needs ≡ whole r buffer ∷ []
+
+-- what holds of the boards of legal orders, however far their entries have settled
+pub record IsOrderly (b : Board) : Type 0 where
+  -- the thread of a pending host access or end waits
+  pub awaited : (k t : ℕ) (e : Entry) → IsPendingAt b.entries k e → waiter e.work ≡ Some t → slice_get b.waits t ≡ Some OnEntry
+  -- for one entry
+  pub alone : (j k t : ℕ) (x y : Entry) → IsPendingAt b.entries j x → IsPendingAt b.entries k y → waiter x.work ≡ Some t → waiter y.work ≡ Some t → j ≡ k
+  pub there : (k : ℕ) (e : Entry) → IsPendingAt b.entries k e → are_there (length b.buffers) e.needs ≡ true
+  pub whole : (k t r : ℕ) (e : Entry) → IsPendingAt b.entries k e → e.work ≡ End t r → NeedsWhole b.buffers r e.needs
+  -- an open host access waits for nothing
+  pub open_first : (k : ℕ) (e : Entry) → IsAt b.entries k e → e.stage ≡ Granted → is_held (take k b.entries) e ≡ false
+
+-- the thread waits for an entry
+abbrev pub waits_on_entry : Option Waits → Bool
+waits_on_entry (Some OnEntry) = true
+waits_on_entry w = false
+
+-- the thread may make the ask: it waits for no entry, and a throw of a queue waits for the nodes of that queue
+pub record MayAsk (b : Board) (t : ℕ) (q : Ask) : Type 0 where
+  pub idle : waits_on_entry (slice_get b.waits t) ≡ false
+  pub clear : is_clear b q ≡ true
