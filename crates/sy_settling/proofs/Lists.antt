@@ -1,6 +1,6 @@
 -- Lists with one member changed, set or added.
 use Rattle.std.proofs.Common.{◌≡◌, ◌≢◌, ℕ, zero, suc, ◌+◌, ◌<◌, ◌≤◌, List, [], ◌∷◌, ◌++◌, length, take, set, Bool, true, false, Option, Some, None, refl, sym, ap, ◌∙◌, subst, arith}
-use Rattle.std.specs.Prelude.{slice_get, option_map, ◌||◌}
+use Rattle.std.specs.Prelude.{slice_get, option_map, ◌||◌, ◌&&◌, not}
 use Rattle.std.specs.List.{list_any}
 use Rattle.sy_onecopy.specs.Each.{each_from, changed_at}
 
@@ -103,6 +103,18 @@ get-append [] ys k lt = absurd (omega arith)
 get-append (x ∷ xs) ys zero lt = refl
 get-append (x ∷ xs) ys (suc k) lt = get-append xs ys k (omega arith)
 
+pub get-take : {A : Type 0} (xs : List A) (n k : ℕ) → k < n → slice_get (take n xs) k ≡ slice_get xs k
+get-take xs zero k lt = absurd (omega arith)
+get-take [] (suc n) k lt = refl
+get-take (x ∷ xs) (suc n) zero lt = refl
+get-take (x ∷ xs) (suc n) (suc k) lt = get-take xs n k (omega arith)
+
+pub get-of_take : {A : Type 0} (xs : List A) (n k : ℕ) (x : A) → slice_get (take n xs) k ≡ Some x → slice_get xs k ≡ Some x
+get-of_take xs zero k x g = absurd cc
+get-of_take [] (suc n) k x g = g
+get-of_take (y ∷ xs) (suc n) zero x g = g
+get-of_take (y ∷ xs) (suc n) (suc k) x g = get-of_take xs n k x g
+
 -- ---- tests
 
 pub or_left : (a b : Bool) → (a || b) ≡ false → a ≡ false
@@ -112,6 +124,24 @@ or_left true b h = h
 pub or_right : (a b : Bool) → (a || b) ≡ false → b ≡ false
 or_right false b h = h
 or_right true b h = absurd cc
+
+pub or_false : (a b : Bool) → a ≡ false → b ≡ false → (a || b) ≡ false
+or_false a b p q = ap (λ t. t || b) p ∙ q
+
+pub and_left : (a b : Bool) → (a && b) ≡ true → a ≡ true
+and_left true b h = refl
+and_left false b h = h
+
+pub and_right : (a b : Bool) → (a && b) ≡ true → b ≡ true
+and_right true b h = h
+and_right false b h = absurd cc
+
+pub and_true : (a b : Bool) → a ≡ true → b ≡ true → (a && b) ≡ true
+and_true a b p q = ap (λ t. t && b) p ∙ q
+
+pub not_true : (a : Bool) → not a ≡ true → a ≡ false
+not_true true h = absurd cc
+not_true false h = refl
 
 pub some_is : {A : Type 0} {x y : A} → Some x ≡ Some y → x ≡ y
 some_is p = cc
