@@ -20,7 +20,7 @@ use Rattle.sy_onecopy.specs.Before.{is_pending}
 use Rattle.sy_onecopy.specs.Outcome.{cell_after, buffer_after, buffers_after, values_at, inputs}
 use Rattle.sy_onecopy.specs.Settle.{with_stage, took, effect, first_of}
 use Rattle.sy_onecopy.specs.Laws.{needs_meet}
-use Rattle.sy_settling.specs.Orderly.{waiter, waits_on_entry, NeedsWhole}
+use Rattle.sy_settling.specs.Orderly.{waiter, NeedsWhole}
 use Rattle.sy_settling.proofs.Lists.{set-swap, get-set_other, some_is}
 use Rattle.sy_settling.proofs.Cells.{Cells, kept_cells, mapped, KeepsBut, kept_keep, after_keeps, mapped-kept, inputs-kept, whole-kept}
 
@@ -74,11 +74,10 @@ pub record ActOf (a : Act) (e : Entry) : Type 0 where
   pub keeps : KeepsBut a.cells e.needs
   pub moves : is_pending a.stage ≡ false
   pub tells : (d : ℕ × Waits) → a.due ≡ Some d → waiter e.work ≡ Some d.0
-  pub answers : (d : ℕ × Waits) → a.due ≡ Some d → waits_on_entry (Some d.1) ≡ false
 
 node_act-of : (e : Entry) (o : Outcome) → ActOf (node_act e.needs o) e
-node_act-of e (outcome.Wrote log) = record { keeps = after_keeps e.needs log; moves = refl; tells = λ d p. absurd cc; answers = λ d p. absurd cc }
-node_act-of e (outcome.Failed fault) = record { keeps = after_keeps e.needs []; moves = refl; tells = λ d p. absurd cc; answers = λ d p. absurd cc }
+node_act-of e (outcome.Wrote log) = record { keeps = after_keeps e.needs log; moves = refl; tells = λ d p. absurd cc }
+node_act-of e (outcome.Failed fault) = record { keeps = after_keeps e.needs []; moves = refl; tells = λ d p. absurd cc }
 
 pub act-of : (out : OutcomeOf) (e : Entry) (w : Work) (s : Seen) → e.work ≡ w → ActOf (act out e.needs w s) e
 act-of out e (Node n q c) s h = node_act-of e (out c s.0)
@@ -86,13 +85,11 @@ act-of out e (Access t i) s h = record {
   keeps = kept_keep e.needs;
   moves = refl;
   tells = λ d p. ap waiter h ∙ ap (λ (x : ℕ × Waits). Some x.0) (some_is p);
-  answers = λ d p. subst (λ (x : ℕ × Waits). waits_on_entry (Some x.1) ≡ false) (some_is p) refl;
 }
 act-of out e (End t r) s h = record {
   keeps = kept_keep e.needs;
   moves = refl;
   tells = λ d p. ap waiter h ∙ ap (λ (x : ℕ × Waits). Some x.0) (some_is p);
-  answers = λ d p. subst (λ (x : ℕ × Waits). waits_on_entry (Some x.1) ≡ false) (some_is p) refl;
 }
 
 pub told-swap : (c d : Option (ℕ × Waits)) (ws : List Waits) → ((x y : ℕ × Waits) → c ≡ Some x → d ≡ Some y → x.0 ≢ y.0) → told c (told d ws) ≡ told d (told c ws)

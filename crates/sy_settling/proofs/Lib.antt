@@ -4,3 +4,4 @@ pub mod Acts
 pub mod Free
 pub mod Kept
 pub mod Settling
+pub mod Asks

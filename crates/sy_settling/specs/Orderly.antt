@@ -51,12 +51,13 @@ pub record IsOrderly (b : Board) : Type 0 where
   -- an open host access waits for nothing
   pub open_first : (k : ℕ) (e : Entry) → IsAt b.entries k e → e.stage ≡ Granted → is_held (take k b.entries) e ≡ false
 
--- the thread waits for an entry
-abbrev pub waits_on_entry : Option Waits → Bool
-waits_on_entry (Some OnEntry) = true
-waits_on_entry w = false
+-- the thread is there and waits for no entry
+abbrev pub is_idle : Option Waits → Bool
+is_idle None = false
+is_idle (Some OnEntry) = false
+is_idle (Some w) = true
 
 -- the thread may make the ask: it waits for no entry, and a throw of a queue waits for the nodes of that queue
 pub record MayAsk (b : Board) (t : ℕ) (q : Ask) : Type 0 where
-  pub idle : waits_on_entry (slice_get b.waits t) ≡ false
+  pub idle : is_idle (slice_get b.waits t) ≡ true
   pub clear : is_clear b q ≡ true
