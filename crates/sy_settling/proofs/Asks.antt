@@ -190,14 +190,14 @@ access_from_same s n k t i [] = refl
 access_from_same s n zero t i (x ∷ xs) = refl
 access_from_same s n (suc k) t i (x ∷ xs) = ap (λ o. if is_access x.work t i then Some n else o) (access_from_same s (suc n) k t i xs)
 
-record Found (n j t i : ℕ) (xs : List Entry) : Type 0 where
-  place : ℕ
-  entry : Entry
-  counted : n + place ≡ j
-  at : IsAt xs place entry
-  named : is_access entry.work t i ≡ true
+pub record Found (n j t i : ℕ) (xs : List Entry) : Type 0 where
+  pub place : ℕ
+  pub entry : Entry
+  pub counted : n + place ≡ j
+  pub at : IsAt xs place entry
+  pub named : is_access entry.work t i ≡ true
 
-access_found : (n j t i : ℕ) (xs : List Entry) → access_from n xs t i ≡ Some j → Found n j t i xs
+pub access_found : (n j t i : ℕ) (xs : List Entry) → access_from n xs t i ≡ Some j → Found n j t i xs
 access_found n j t i [] h = absurd cc
 access_found n j t i (x ∷ xs) h = elim (cases_Bool (is_access x.work t i)) [
   | inl v ↦ record {
@@ -212,7 +212,7 @@ access_found n j t i (x ∷ xs) h = elim (cases_Bool (is_access x.work t i)) [
     record { place = suc f.place; entry = f.entry; counted = (let c : n + suc f.place ≡ suc n + f.place = omega arith in c) ∙ f.counted; at = f.at; named = f.named }
 ]
 
-access_waiter : (w : Work) (t i : ℕ) → is_access w t i ≡ true → waiter w ≡ Some t
+pub access_waiter : (w : Work) (t i : ℕ) → is_access w t i ≡ true → waiter w ≡ Some t
 access_waiter (Node n q c) t i h = absurd cc
 access_waiter (Access u j) t i h = ap Some (eqb-true u t (and_left (u == t) (j == i) h))
 access_waiter (End u r) t i h = absurd cc
@@ -368,7 +368,7 @@ thrown-after b a k e t None s = await-after b a k t (Due Answered) (untold b a k
 thrown-after b a k e t (Some f) s = refl
 
 -- the entry is no node of a queue whose nodes are done
-off_queue : (q k : ℕ) (xs : List Entry) (e : Entry) → IsAt xs k e → is_done e.stage ≡ false → has_open_node_on xs q ≡ false → is_node_on q e.work ≡ false
+pub off_queue : (q k : ℕ) (xs : List Entry) (e : Entry) → IsAt xs k e → is_done e.stage ≡ false → has_open_node_on xs q ≡ false → is_node_on q e.work ≡ false
 unfolding has_open_node_on
 off_queue q k xs e g d h =
     and_yes (is_node_on q e.work) (ap (λ v. is_node_on q e.work && not v) (sym d) ∙ any-at (λ x. is_node_on q x.work && not (is_done x.stage)) xs k e h g)

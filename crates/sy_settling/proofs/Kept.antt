@@ -38,11 +38,10 @@ was-pending s k j xs x m p = (sym (get-changed_other (with_stage s) k j xs (othe
 
 -- ---- a board while an entry acts
 
-need_of : ℕ → ℕ → Need
+abbrev pub need_of : ℕ → ℕ → Need
 need_of r n = record { buffer = r; mode = ReadWrite; no_init = false; from = 0; to = n }
 
 pub whole-mapped : (h : Cells) (buffers : List Buffer) (r : ℕ) (needs : List Need) → NeedsWhole buffers r needs → NeedsWhole (mapped h buffers) r needs
-unfolding need_of
 whole-mapped h buffers r needs n = record {
   buffer = buffer_by h r n.buffer;
   found = get-mapped h buffers r ∙ ap (option_map (buffer_by h r)) n.found;
@@ -105,6 +104,10 @@ after-swap b u v j k x y o ne c d = build-same b
 
 pub act_at : OutcomeOf → Board → Entry → Act
 act_at out b e = act out e.needs e.work (seen b.buffers e.needs e.work)
+
+pub act_at-seen : (out : OutcomeOf) (b c : Board) (e : Entry) → seen c.buffers e.needs e.work ≡ seen b.buffers e.needs e.work → act_at out c e ≡ act_at out b e
+unfolding act_at
+act_at-seen out b c e h = ap (act out e.needs e.work) h
 
 pub act_at-of : (out : OutcomeOf) (b : Board) (e : Entry) → ActOf (act_at out b e) e
 unfolding act_at

@@ -5,3 +5,7 @@ pub mod Free
 pub mod Kept
 pub mod Settling
 pub mod Asks
+pub mod Follows
+pub mod Late
+pub mod Alike
+pub mod Orders

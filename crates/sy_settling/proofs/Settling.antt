@@ -18,7 +18,7 @@ use Rattle.sy_settling.proofs.Kept.{act_at, act_at-of, effect-act, Ready, orderl
 pub effect-entries : (out : OutcomeOf) (b : Board) (k : ℕ) (e : Entry) → (effect out b k e e.work).entries ≡ changed_at (with_stage (act_at out b e).stage) k b.entries
 effect-entries out b k e = ap (λ z. z.entries) (effect-act out b k e)
 
-is_free-front : (xs ys : List Entry) (k : ℕ) (e : Entry) → take k xs ≡ take k ys → is_free xs k e ≡ is_free ys k e
+pub is_free-front : (xs ys : List Entry) (k : ℕ) (e : Entry) → take k xs ≡ take k ys → is_free xs k e ≡ is_free ys k e
 unfolding is_free
 is_free-front xs ys k e p = ap (λ l. is_pending e.stage && not (is_held l e)) p
 
@@ -34,11 +34,11 @@ ready-other out b j k x y ne rx ry =
 
 -- ---- one place of a pass
 
-entry-free : (out : OutcomeOf) (b : Board) (k : ℕ) (e : Entry) (v : Bool) → is_free b.entries k e ≡ v → settle_entry out b k (Some e) ≡ (if v then effect out b k e e.work else b)
+pub entry-free : (out : OutcomeOf) (b : Board) (k : ℕ) (e : Entry) (v : Bool) → is_free b.entries k e ≡ v → settle_entry out b k (Some e) ≡ (if v then effect out b k e e.work else b)
 unfolding settle_entry
 entry-free out b k e v h = ap (λ t. if t then effect out b k e e.work else b) h
 
-entry-none : (out : OutcomeOf) (b : Board) (k : ℕ) → settle_entry out b k None ≡ b
+pub entry-none : (out : OutcomeOf) (b : Board) (k : ℕ) → settle_entry out b k None ≡ b
 unfolding settle_entry
 entry-none out b k = refl
 

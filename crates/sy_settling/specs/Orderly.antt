@@ -1,18 +1,20 @@
 -- Boards whose entries may not have settled yet.
-use Rattle.std.specs.Prelude.{◌≡◌, ℕ, Bool, true, false, not, ◌&&◌, ◌==◌, nat_lt, List, [], ◌∷◌, length, take, Option, Some, None, slice_get}
+use Rattle.std.specs.Prelude.{◌≡◌, ℕ, Bool, true, false, not, ◌&&◌, ◌==◌, nat_lt, List, [], ◌∷◌, length, map, take, Option, Some, None, slice_get}
 use Rattle.std.specs.List.{list_any, list_all}
 use Rattle.sy_access.specs.declared.access.Need.{Need}
 use Rattle.sy_work.specs.declared.asks.Ask.{Ask}
 use Rattle.sy_work.specs.declared.asks.Ask.TheVariants.{ThrowQueue}
 use Rattle.sy_onecopy.specs.declared.Buffer.{Buffer}
+use Rattle.sy_onecopy.specs.declared.Origin.{Origin}
 use Rattle.sy_onecopy.specs.declared.Entry.{Entry}
 use Rattle.sy_onecopy.specs.declared.Work.{Work}
 use Rattle.sy_onecopy.specs.declared.Work.TheVariants.{Node, Access, End}
-use Rattle.sy_onecopy.specs.declared.Stage.TheVariants.{Granted}
+use Rattle.sy_onecopy.specs.declared.Stage.TheVariants.{Pending, Granted}
 use Rattle.sy_onecopy.specs.declared.Waits.{Waits}
 use Rattle.sy_onecopy.specs.declared.Waits.TheVariants.{OnEntry}
 use Rattle.sy_onecopy.specs.Before.{is_pending, is_held}
 use Rattle.sy_onecopy.specs.State.{Board}
+use Rattle.sy_onecopy.specs.Settle.{with_stage}
 use Rattle.sy_onecopy.specs.Step.{whole}
 use Rattle.sy_onecopy.specs.Sequence.{is_clear}
 
@@ -61,3 +63,19 @@ is_idle (Some w) = true
 pub record MayAsk (b : Board) (t : ℕ) (q : Ask) : Type 0 where
   pub idle : is_idle (slice_get b.waits t) ≡ true
   pub clear : is_clear b q ≡ true
+
+-- a buffer but for its numbers
+abbrev pub shape : Buffer → ℕ × Origin × Bool
+shape x = (length x.values, x.origin, x.ended)
+
+-- two boards are alike but for the elements of buffers, the stages of entries, and what threads wait for
+pub record IsAlike (b c : Board) : Type 0 where
+  pub buffers : map shape b.buffers ≡ map shape c.buffers
+  pub queues : b.queues ≡ c.queues
+  pub places : b.places ≡ c.places
+  pub entries : map (with_stage Pending) b.entries ≡ map (with_stage Pending) c.entries
+  pub nodes : b.nodes ≡ c.nodes
+  pub threads : length b.waits ≡ length c.waits
+  pub output : b.output ≡ c.output
+  pub ended : b.ended ≡ c.ended
+  pub steps : b.steps ≡ c.steps

@@ -1,0 +1,1 @@
+-- What settling changes nothing of.
