@@ -384,7 +384,7 @@ throw-after b a k e t q s h =
 
 -- ---- threads
 
-told-length : (d : Option (ℕ × Waits)) (ws : List Waits) → length (told d ws) ≡ length ws
+pub told-length : (d : Option (ℕ × Waits)) (ws : List Waits) → length (told d ws) ≡ length ws
 told-length None ws = refl
 told-length (Some x) ws = length-set ws x.0 x.1
 
