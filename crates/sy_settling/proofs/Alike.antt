@@ -16,7 +16,7 @@ use Rattle.sy_onecopy.specs.Settle.{with_stage, effect, settle_entry, settle_upt
 use Rattle.sy_onecopy.specs.Step.{apply}
 use Rattle.sy_settling.specs.Orderly.{IsOrderly, MayAsk, IsAlike, shape}
 use Rattle.sy_settling.proofs.Lists.{length-each}
-use Rattle.sy_settling.proofs.Cells.{Cells, buffer_by, mapped}
+use Rattle.sy_settling.proofs.Cells.{Cells, buffer_by}
 use Rattle.sy_settling.proofs.Acts.{Act, told-other, after}
 use Rattle.sy_settling.proofs.Kept.{act_at, effect-act, Ready}
 use Rattle.sy_settling.proofs.Settling.{entry-none, entry-free, settle-keeps}

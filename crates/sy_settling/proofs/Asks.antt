@@ -1,6 +1,6 @@
 -- An effect before an ask's own and after it.
-use Rattle.std.proofs.Common.{◌≡◌, ◌≢◌, ℕ, zero, suc, ◌+◌, ◌-◌, ◌<◌, ◌≤◌, ℤ, List, [], ◌∷◌, ◌++◌, length, set, Bool, true, false, Option, Some, None, refl, sym, ap, ◌∙◌, subst, inl, inr, arith}
-use Rattle.std.specs.Prelude.{◌^◌, slice_get, option_map, slice_index_or, unwrap_or, if◌then◌else◌, not, ◌&&◌, ◌==◌, nat_lt, nat_le, sum_by, count_by, fold}
+use Rattle.std.proofs.Common.{◌≡◌, ◌≢◌, ℕ, zero, suc, ◌+◌, ◌-◌, ◌<◌, ℤ, List, [], ◌∷◌, ◌++◌, length, Bool, true, false, Option, Some, None, refl, sym, ap, ◌∙◌, subst, inl, inr, arith}
+use Rattle.std.specs.Prelude.{◌^◌, slice_get, option_map, slice_index_or, if◌then◌else◌, not, ◌&&◌, ◌==◌, nat_lt, nat_le, fold}
 use Rattle.std.specs.List.{list_any, list_all}
 use Rattle.std.proofs.lemmas.List.{set-append_left, length-set}
 use Rattle.std.proofs.lemmas.Bool.{cases_Bool, eqb-true}
@@ -9,11 +9,9 @@ use Rattle.sy_access.specs.declared.access.Need.{Need}
 use Rattle.sy_access.specs.declared.access.Mode.TheVariants.{ReadWrite}
 use Rattle.sy_access.specs.Needs.{writes, has_cell}
 use Rattle.sy_range.specs.LinearIds.{product}
-use Rattle.sy_work.specs.Programs.{OutcomeOf}
 use Rattle.sy_work.specs.declared.asks.Ask.{Ask}
 use Rattle.sy_work.specs.declared.asks.Ask.TheVariants.{Print, MakeBuffer, MakeSub, EndBuffer, OpenHost, CloseHost, MakeContext, MakeQueue, Submit, WaitNode, WaitQueue, ThrowQueue, Spawn, Join, Finish, Halt, Barrier, Collect}
-use Rattle.sy_work.specs.declared.asks.Answer.{Answer}
-use Rattle.sy_work.specs.declared.asks.Answer.TheVariants.{Done as Answered, Number, Refused}
+use Rattle.sy_work.specs.declared.asks.Answer.TheVariants.{Done as Answered, Number}
 use Rattle.sy_work.specs.declared.asks.NewBuffer.{NewBuffer}
 use Rattle.sy_work.specs.declared.asks.NewQueue.{NewQueue}
 use Rattle.sy_work.specs.declared.asks.Submission.{Submission}
@@ -28,18 +26,18 @@ use Rattle.sy_onecopy.specs.declared.Work.TheVariants.{Node, Access, End}
 use Rattle.sy_onecopy.specs.declared.Stage.{Stage}
 use Rattle.sy_onecopy.specs.declared.Stage.TheVariants as stage
 use Rattle.sy_onecopy.specs.declared.Waits.{Waits}
-use Rattle.sy_onecopy.specs.declared.Waits.TheVariants.{Due, Ready as NoWait, OnEntry, OnNode, OnQueue, OnThread, Never, Finished}
+use Rattle.sy_onecopy.specs.declared.Waits.TheVariants.{Due, Ready as NoWait, OnEntry, OnNode, OnQueue, OnThread, Finished}
 use Rattle.sy_onecopy.specs.Each.{each_from, changed_at}
 use Rattle.sy_onecopy.specs.State.{Board}
 use Rattle.sy_onecopy.specs.Before.{is_pending, is_done}
 use Rattle.sy_onecopy.specs.Outcome.{is_written, writes_at}
 use Rattle.sy_onecopy.specs.Settle.{with_stage, await, reply, to_stage}
-use Rattle.sy_onecopy.specs.Step.{stop, printed, made_buffer, add_buffer, made_part, mark_ended, with_end, add_entry, end_entry, end_root, end_buffer, opened_host, access_entry, accesses, is_access, is_access_of, access_from, cell_put, buffer_put, put_back, closed, close_entry, close_at, close_found, made_context, made_queue, add_node, node_entry, submitted, wait_if, thrown, throw_queue, spawned, apply, error_on, error_in, or_later, is_root, count_of, is_root_need, are_root_needs, are_different, are_below, has_needs, has_count, live_elements, holds_together, is_node_on, new_buffer, part_buffer}
+use Rattle.sy_onecopy.specs.Step.{printed, made_buffer, add_buffer, made_part, mark_ended, with_end, add_entry, end_entry, end_root, end_buffer, opened_host, access_entry, accesses, is_access, is_access_of, access_from, cell_put, buffer_put, put_back, closed, close_entry, close_at, close_found, made_context, made_queue, add_node, node_entry, submitted, wait_if, thrown, throw_queue, spawned, apply, error_on, error_in, or_later, is_root, count_of, is_root_need, are_root_needs, are_different, are_below, has_needs, has_count, live_elements, holds_together, is_node_on, new_buffer, part_buffer}
 use Rattle.sy_onecopy.specs.Sequence.{is_clear, has_open_node_on}
-use Rattle.sy_settling.specs.Orderly.{IsAt, IsPendingAt, waiter, is_idle, are_there, IsOrderly, MayAsk}
-use Rattle.sy_settling.proofs.Lists.{get-changed_other, changed-append, each-changed, length-each, each-append, or_left, or_right, and_left, and_right, some_is, any-at}
-use Rattle.sy_settling.proofs.Cells.{Cells, mapped, buffer_by, get-mapped, mapped-kept, KeepsBut, there_unwritten, each_kept}
-use Rattle.sy_settling.proofs.Acts.{Act, ActOf, told, told-set, after, build, build-same}
+use Rattle.sy_settling.specs.Orderly.{IsAt, IsPendingAt, waiter, is_idle, IsOrderly}
+use Rattle.sy_settling.proofs.Lists.{get-changed_other, changed-append, each-changed, length-each, or_left, and_left, some_is, any-at}
+use Rattle.sy_settling.proofs.Cells.{Cells, mapped, buffer_by, get-mapped, mapped-kept, KeepsBut, each_kept}
+use Rattle.sy_settling.proofs.Acts.{Act, told, told-set, after, build, build-same}
 use Rattle.sy_settling.proofs.Kept.{Acts, after-swap}
 
 -- an entry acts, and a thread that waits for no entry asks
@@ -117,16 +115,16 @@ unfolding made_buffer
 made_buffer-after b a k e t m s =
     let v = has_count (product m.range) m.init in
     branch a k v v _ _ refl
-      (branch a k _ _ _ _ (ap (λ n. nat_le (n + product m.range) (2 ^ 22)) (sym (live_same a.cells b.buffers))) (added-after b a k e t (new_buffer m) s) (await-after b a k t _ (untold b a k e t s)))
-      refl
+    (branch a k _ _ _ _ (ap (λ n. nat_le (n + product m.range) (2 ^ 22)) (sym (live_same a.cells b.buffers))) (added-after b a k e t (new_buffer m) s) (await-after b a k t _ (untold b a k e t s)))
+    refl
 
 made_part-after : (b : Board) (a : Act) (k : ℕ) (e : Entry) (t r base n : ℕ) → Scene b a k e t → after a k (made_part b t r base n) ≡ made_part (after a k b) t r base n
 unfolding made_part
 made_part-after b a k e t r base n s =
     branch a k _ _ _ _
-      (ap (λ v. v && nat_le (base + n) (count_of (slice_get b.buffers r))) (sym (root_same a.cells b.buffers r))
-      ∙ ap (λ c. is_root (slice_get (mapped a.cells b.buffers) r) && nat_le (base + n) c) (sym (count_same a.cells b.buffers r)))
-      (added-after b a k e t part_buffer s) refl
+    (ap (λ v. v && nat_le (base + n) (count_of (slice_get b.buffers r))) (sym (root_same a.cells b.buffers r))
+    ∙ ap (λ c. is_root (slice_get (mapped a.cells b.buffers) r) && nat_le (base + n) c) (sym (count_same a.cells b.buffers r)))
+    (added-after b a k e t part_buffer s) refl
 
 ended-after : (h : Cells) (r : ℕ) (xs : List Buffer) → mapped h (changed_at with_end r xs) ≡ changed_at with_end r (mapped h xs)
 ended-after h r xs = each-changed (buffer_by h) with_end r 0 xs (λ i x. refl)
@@ -140,10 +138,10 @@ end_root-after b a k e t r x Vector s =
     let es = changed_at (with_stage a.stage) k b.entries in
     await-after (add_entry (mark_ended b r) (end_entry t r x)) a k t OnEntry (untold b a k e t s)
     ∙ ap (λ z. await z t OnEntry) (build-same b
-        (ended-after a.cells r b.buffers)
-        (changed-append (with_stage a.stage) k b.entries (end_entry t r x ∷ []) (slice_get_within b.entries k e s.acts.at)
-        ∙ ap (λ n. es ++ end_of t r n ∷ []) (sym (length-each (a.cells r) 0 x.values)))
-        refl)
+    (ended-after a.cells r b.buffers)
+    (changed-append (with_stage a.stage) k b.entries (end_entry t r x ∷ []) (slice_get_within b.entries k e s.acts.at)
+    ∙ ap (λ n. es ++ end_of t r n ∷ []) (sym (length-each (a.cells r) 0 x.values)))
+    refl)
 end_root-after b a k e t r x Range s =
     await-after (mark_ended b r) a k t (Due Answered) (untold b a k e t s)
     ∙ ap (λ l. reply (build (after a k b) l (changed_at (with_stage a.stage) k b.entries) (told a.due b.waits)) t Answered) (ended-after a.cells r b.buffers)
@@ -179,11 +177,11 @@ opened_host-after b a k e t n s =
     let es = b.entries in
     let x = access_entry t (accesses es t) n in
     branch a k _ _ _ _ (sym (root_need_same a.cells b.buffers n))
-      (await-after (add_entry b x) a k t OnEntry (untold b a k e t s)
-      ∙ ap (λ l. await (build (after a k b) (mapped a.cells b.buffers) l (told a.due b.waits)) t OnEntry)
-          (changed-append (with_stage a.stage) k es (x ∷ []) (within b a k e t s)
-          ∙ ap (λ i. changed_at (with_stage a.stage) k es ++ access_entry t i n ∷ []) (sym (accesses_same a.stage k t es))))
-      refl
+    (await-after (add_entry b x) a k t OnEntry (untold b a k e t s)
+    ∙ ap (λ l. await (build (after a k b) (mapped a.cells b.buffers) l (told a.due b.waits)) t OnEntry)
+    (changed-append (with_stage a.stage) k es (x ∷ []) (within b a k e t s)
+    ∙ ap (λ i. changed_at (with_stage a.stage) k es ++ access_entry t i n ∷ []) (sym (accesses_same a.stage k t es))))
+    refl
 
 access_from_same : (s : Stage) (n k t i : ℕ) (xs : List Entry) → access_from n (changed_at (with_stage s) k xs) t i ≡ access_from n xs t i
 access_from_same s n k t i [] = refl
@@ -201,15 +199,15 @@ pub access_found : (n j t i : ℕ) (xs : List Entry) → access_from n xs t i �
 access_found n j t i [] h = absurd cc
 access_found n j t i (x ∷ xs) h = elim (cases_Bool (is_access x.work t i)) [
   | inl v ↦ record {
-      place = 0;
-      entry = x;
-      counted = (let c : n + 0 ≡ n = omega arith in c) ∙ some_is (sym (ap (λ u. if u then Some n else access_from (suc n) xs t i) v) ∙ h);
-      at = refl;
-      named = v;
-    }
+    place = 0;
+    entry = x;
+    counted = (let c : n + 0 ≡ n = omega arith in c) ∙ some_is (sym (ap (λ u. if u then Some n else access_from (suc n) xs t i) v) ∙ h);
+    at = refl;
+    named = v;
+  }
   | inr v ↦
-    let f = access_found (suc n) j t i xs (sym (ap (λ u. if u then Some n else access_from (suc n) xs t i) v) ∙ h) in
-    record { place = suc f.place; entry = f.entry; counted = (let c : n + suc f.place ≡ suc n + f.place = omega arith in c) ∙ f.counted; at = f.at; named = f.named }
+      let f = access_found (suc n) j t i xs (sym (ap (λ u. if u then Some n else access_from (suc n) xs t i) v) ∙ h) in
+      record { place = suc f.place; entry = f.entry; counted = (let c : n + suc f.place ≡ suc n + f.place = omega arith in c) ∙ f.counted; at = f.at; named = f.named }
 ]
 
 pub access_waiter : (w : Work) (t i : ℕ) → is_access w t i ≡ true → waiter w ≡ Some t
@@ -265,10 +263,10 @@ unfolding closed
 closed-after b a k j e x t values n s ne c =
     let v = length values == n.to - n.from in
     branch a k v v _ _ refl
-      (await-after (to_stage (put_back b n values) j stage.Done) a k t (Due Answered) (untold b a k e t s)
-      ∙ ap (λ z. reply z t Answered)
-          (ap (after a k) (closed-is b n values j) ∙ after-swap b a (closing n values) k j e x s.orderly (λ q. ne (sym q)) s.acts c ∙ sym (closed-is (after a k b) n values j)))
-      refl
+    (await-after (to_stage (put_back b n values) j stage.Done) a k t (Due Answered) (untold b a k e t s)
+    ∙ ap (λ z. reply z t Answered)
+    (ap (after a k) (closed-is b n values j) ∙ after-swap b a (closing n values) k j e x s.orderly (λ q. ne (sym q)) s.acts c ∙ sym (closed-is (after a k b) n values j)))
+    refl
 
 close_entry-after : (b : Board) (a : Act) (k j : ℕ) (e x : Entry) (t : ℕ) (values : List ℤ) (st : Stage) (ns : List Need) → Scene b a k e t → j ≢ k → IsAt b.entries j x → x.stage ≡ st → x.needs ≡ ns → after a k (close_entry b t values j st ns) ≡ close_entry (after a k b) t values j st ns
 unfolding close_entry
@@ -294,9 +292,9 @@ close_found-after b a k e t i values (Some j) s h =
     let x = f.entry in
     let g : IsAt b.entries j x = subst (λ m. IsAt b.entries m x) ((let c : f.place ≡ 0 + f.place = omega arith in c) ∙ f.counted) f.at in
     let ne : j ≢ k = λ q.
-      (let is : x ≡ e = some_is (sym g ∙ ap (slice_get b.entries) q ∙ s.acts.at) in
-      let p : is_pending x.stage ≡ true = ap (λ y. is_pending y.stage) is ∙ s.pending in
-      not_pending b j t x s.orderly s.idle (g, p) (access_waiter x.work t i f.named)) in
+    (let is : x ≡ e = some_is (sym g ∙ ap (slice_get b.entries) q ∙ s.acts.at) in
+    let p : is_pending x.stage ≡ true = ap (λ y. is_pending y.stage) is ∙ s.pending in
+    not_pending b j t x s.orderly s.idle (g, p) (access_waiter x.work t i f.named)) in
     ap (λ v. after a k (close_at b t values j v)) g
     ∙ close_at-after b a k j e x t values s ne g
     ∙ ap (close_at (after a k b) t values j) (sym (get-changed_other (with_stage a.stage) k j b.entries ne ∙ g))
@@ -378,9 +376,9 @@ unfolding throw_queue
 throw-after b a k e t q s h =
     let v = nat_lt q (length b.queues) in
     branch a k v v _ _ refl
-      (thrown-after b a k e t (error_on q b.entries) s
-      ∙ ap (thrown (after a k b) t) (sym (errors-changed q a.stage k b.entries e s.acts.at (off_queue q k b.entries e s.acts.at s.acts.undone h))))
-      refl
+    (thrown-after b a k e t (error_on q b.entries) s
+    ∙ ap (thrown (after a k b) t) (sym (errors-changed q a.stage k b.entries e s.acts.at (off_queue q k b.entries e s.acts.at s.acts.undone h))))
+    refl
 
 -- ---- threads
 
@@ -399,10 +397,10 @@ spawned-after b a k e t s =
     let n = told-length a.due b.waits in
     let there : (d : ℕ × Waits) → a.due ≡ Some d → d.0 < length b.waits = λ d p. slice_get_within b.waits d.0 OnEntry (s.orderly.awaited k d.0 e (s.acts.at, s.pending) (s.acts.of.tells d p)) in
     branch a k _ _ _ _ (ap (λ i. nat_lt i 64) (sym n))
-      (await-after (record b { waits = b.waits ++ NoWait ∷ [] }) a k t (Due (Number (length b.waits))) (untold b a k e t s)
-      ∙ ap (λ l. reply (build c c.buffers c.entries l) t (Number (length b.waits))) (told-append a.due b.waits NoWait there)
-      ∙ ap (λ i. reply (build c c.buffers c.entries (told a.due b.waits ++ NoWait ∷ [])) t (Number i)) (sym n))
-      refl
+    (await-after (record b { waits = b.waits ++ NoWait ∷ [] }) a k t (Due (Number (length b.waits))) (untold b a k e t s)
+    ∙ ap (λ l. reply (build c c.buffers c.entries l) t (Number (length b.waits))) (told-append a.due b.waits NoWait there)
+    ∙ ap (λ i. reply (build c c.buffers c.entries (told a.due b.waits ++ NoWait ∷ [])) t (Number i)) (sym n))
+    refl
 
 -- ---- any ask
 

@@ -1,16 +1,15 @@
 -- Changes of the elements of all buffers, and what they leave of the elements of other needs.
-use Rattle.std.proofs.Common.{◌≡◌, ℕ, zero, suc, ◌+◌, ◌-◌, ◌<◌, ◌≤◌, ℤ, List, [], ◌∷◌, ◌++◌, length, take, drop, map, Bool, true, false, Option, Some, None, refl, sym, ap, ◌∙◌, subst, arith, inl, inr}
-use Rattle.std.specs.Prelude.{slice_get, option_map, ◌&&◌, ◌||◌, if◌then◌else◌, unwrap_or, nat_lt}
-use Rattle.std.specs.List.{list_any, list_all}
+use Rattle.std.proofs.Common.{◌≡◌, ℕ, zero, suc, ◌+◌, ◌-◌, ◌<◌, ◌≤◌, ℤ, List, [], ◌∷◌, ◌++◌, length, take, drop, map, true, false, Option, Some, None, refl, sym, ap, ◌∙◌, arith, inl, inr}
+use Rattle.std.specs.Prelude.{slice_get, option_map, ◌||◌, if◌then◌else◌, unwrap_or, nat_lt}
+use Rattle.std.specs.List.{list_any}
 use Rattle.std.proofs.lemmas.Bool.{cases_Bool}
 use Rattle.std.proofs.lemmas.Bool.Decides.{nat_tests}
 use Rattle.sy_access.specs.declared.access.Need.{Need}
 use Rattle.sy_access.specs.declared.cells.Cell.{Cell}
 use Rattle.sy_access.specs.declared.cells.Cell.TheVariants as cell
-use Rattle.sy_access.specs.Needs.{has_cell, conflict, is_apart, writes}
+use Rattle.sy_access.specs.Needs.{has_cell, conflict, is_apart}
 use Rattle.sy_access.specs.Logs.{logged}
 use Rattle.sy_access.proofs.Meeting.{conflict_comm, is_apart_comm}
-use Rattle.sy_work.specs.Programs.{Input}
 use Rattle.sy_onecopy.specs.declared.Buffer.{Buffer}
 use Rattle.sy_onecopy.specs.Each.{each_from}
 use Rattle.sy_onecopy.specs.Before.{meets_one}
@@ -19,7 +18,7 @@ use Rattle.sy_onecopy.specs.Laws.{needs_meet}
 use Rattle.sy_onecopy.specs.Step.{whole}
 use Rattle.sy_onecopy.proofs.Commute.{write_apart}
 use Rattle.sy_settling.specs.Orderly.{are_there}
-use Rattle.sy_settling.proofs.Lists.{length-each, get-each, each-same, each-swap, each-append, get-append, or_left, or_right, or_false, and_left, and_right, some_is}
+use Rattle.sy_settling.proofs.Lists.{get-each, each-same, each-swap, each-append, or_left, or_right, or_false, and_left, and_right}
 
 -- an element by its buffer, its place and its number
 abbrev pub Cells : Type 0
@@ -66,9 +65,9 @@ one_column : (y : Need) (xs ys : List Need) (p q : ℕ) → needs_meet xs p (y �
 one_column y [] ys p q m = (refl, refl)
 one_column y (x ∷ xs) ys p q m =
     let row = or_left (list_any (meets_one x p q) (y ∷ ys)) (needs_meet xs p (y ∷ ys) q) m in
-    let rest = one_column y xs ys p q (or_right (list_any (meets_one x p q) (y ∷ ys)) (needs_meet xs p (y ∷ ys) q) m) in
-    ( or_false (meets_one y q p x) (list_any (meets_one y q p) xs) (meets_one_comm y x q p ∙ or_left (meets_one x p q y) (list_any (meets_one x p q) ys) row) rest.0
-    , or_false (list_any (meets_one x p q) ys) (needs_meet xs p ys q) (or_right (meets_one x p q y) (list_any (meets_one x p q) ys) row) rest.1
+    let rest = one_column y xs ys p q (or_right (list_any (meets_one x p q) (y ∷ ys)) (needs_meet xs p (y ∷ ys) q) m) in (
+      or_false (meets_one y q p x) (list_any (meets_one y q p) xs) (meets_one_comm y x q p ∙ or_left (meets_one x p q y) (list_any (meets_one x p q) ys) row) rest.0,
+      or_false (list_any (meets_one x p q) ys) (needs_meet xs p ys q) (or_right (meets_one x p q y) (list_any (meets_one x p q) ys) row) rest.1,
     )
 
 pub meet_comm : (xs ys : List Need) (p q : ℕ) → needs_meet xs p ys q ≡ false → needs_meet ys q xs p ≡ false
@@ -94,8 +93,8 @@ pub apart-swap : (g h : Cells) (xs ys : List Need) (p q : ℕ) → KeepsBut g xs
 apart-swap g h xs ys p q kg kh m buffers =
     mapped-swap g h buffers (λ r i v. elim (cases_Bool (is_written xs r i)) [
       | inl w ↦
-        let free = write_apart xs ys p q m r i w in
-        ap (g r i) (kh.keeps r i v free) ∙ sym (kh.keeps r i (g r i v) free)
+          let free = write_apart xs ys p q m r i w in
+          ap (g r i) (kh.keeps r i v free) ∙ sym (kh.keeps r i (g r i v) free)
       | inr w ↦ kg.keeps r i (h r i v) w ∙ ap (h r i) (sym (kg.keeps r i v w))
     ])
 
@@ -137,8 +136,8 @@ input-kept : (all : List Need) (n : Need) (h : Cells) (ys : List Need) (p q : �
 unfolding input
 input-kept all n h ys p q buffers k m =
     ap (λ l. (n.buffer, n.from, each_from (at_start all n.buffer) n.from l))
-      (ap (λ l. run_of l n.from n.to) (values-mapped h buffers n.buffer)
-      ∙ run-each (h n.buffer) n.from n.to (values_at buffers n.buffer) (λ i v a b. k.keeps n.buffer i v (not_written n p q ys n.buffer i (in_need n i a b) m)))
+    (ap (λ l. run_of l n.from n.to) (values-mapped h buffers n.buffer)
+    ∙ run-each (h n.buffer) n.from n.to (values_at buffers n.buffer) (λ i v a b. k.keeps n.buffer i v (not_written n p q ys n.buffer i (in_need n i a b) m)))
 
 inputs_from : (all xs : List Need) (h : Cells) (ys : List Need) (p q : ℕ) (buffers : List Buffer) → KeepsBut h ys → needs_meet xs p ys q ≡ false → map (input (mapped h buffers) all) xs ≡ map (input buffers all) xs
 inputs_from all [] h ys p q buffers k m = refl

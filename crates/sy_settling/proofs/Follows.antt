@@ -1,9 +1,9 @@
 -- What an ask leaves of the entries that may take effect, and of the order of the board.
 use Rattle.std.proofs.Common.{◌≡◌, ◌≢◌, ℕ, zero, suc, ◌+◌, ◌-◌, ◌<◌, ◌≤◌, ℤ, List, [], ◌∷◌, ◌++◌, length, take, map, set, Bool, true, false, Option, Some, None, ◌⊎◌, refl, sym, ap, ◌∙◌, subst, inl, inr, arith}
-use Rattle.std.specs.Prelude.{◌^◌, slice_get, option_map, if◌then◌else◌, not, ◌&&◌, ◌==◌, nat_lt, nat_le}
-use Rattle.std.specs.List.{list_any, list_all}
-use Rattle.std.proofs.lemmas.List.{take-append-le, length-append, length-set}
-use Rattle.std.proofs.lemmas.Bool.{cases_Bool, cases_eq}
+use Rattle.std.specs.Prelude.{◌^◌, slice_get, option_map, if◌then◌else◌, ◌&&◌, ◌==◌, nat_lt, nat_le}
+use Rattle.std.specs.List.{list_all}
+use Rattle.std.proofs.lemmas.List.{take-append-le, length-append}
+use Rattle.std.proofs.lemmas.Bool.{cases_eq}
 use Rattle.std.proofs.lemmas.Bool.Decides.{nat_tests}
 use Rattle.std.proofs.lemmas.Option.{slice_get_within, slice_get_cases}
 use Rattle.sy_access.specs.declared.access.Need.{Need}
@@ -28,11 +28,11 @@ use Rattle.sy_onecopy.specs.declared.Waits.{Waits}
 use Rattle.sy_onecopy.specs.declared.Waits.TheVariants.{Ready as NoWait, OnEntry}
 use Rattle.sy_onecopy.specs.Each.{changed_at}
 use Rattle.sy_onecopy.specs.State.{Board}
-use Rattle.sy_onecopy.specs.Before.{is_pending, is_done, is_held, is_free}
+use Rattle.sy_onecopy.specs.Before.{is_pending, is_held, is_free}
 use Rattle.sy_onecopy.specs.Outcome.{at_start, run_of, values_at, values_of, input, inputs}
 use Rattle.sy_onecopy.specs.Each.{each_from}
-use Rattle.sy_onecopy.specs.Settle.{with_stage, await, reply, to_stage}
-use Rattle.sy_onecopy.specs.Step.{printed, made_buffer, made_part, mark_ended, with_end, add_entry, end_entry, end_root, end_buffer, opened_host, access_entry, accesses, access_from, put_back, closed, close_entry, close_at, close_found, made_context, made_queue, add_node, node_entry, submitted, wait_if, thrown, throw_queue, spawned, apply, error_on, is_root, count_of, is_root_need, are_root_needs, are_different, are_below, has_needs, has_count, live_elements, holds_together}
+use Rattle.sy_onecopy.specs.Settle.{with_stage, await, reply}
+use Rattle.sy_onecopy.specs.Step.{printed, made_buffer, made_part, mark_ended, with_end, add_entry, end_entry, end_root, end_buffer, opened_host, access_entry, accesses, access_from, closed, close_entry, close_at, close_found, made_context, made_queue, add_node, node_entry, submitted, wait_if, thrown, throw_queue, spawned, apply, error_on, is_root, count_of, is_root_need, are_root_needs, are_different, are_below, has_needs, has_count, live_elements, holds_together}
 use Rattle.sy_settling.specs.Orderly.{IsAt, IsPendingAt, waiter, is_idle, are_there, NeedsWhole, IsOrderly}
 use Rattle.sy_settling.proofs.Lists.{get-changed, get-changed_other, length-changed, get-append, get-set_other, and_left, and_right, and_true, some_is}
 use Rattle.sy_settling.proofs.Acts.{Act, Seen, seen, seen-kept, after}
@@ -103,8 +103,8 @@ values-go : (xs ys : List Buffer) (r : ℕ) → BuffersGo xs ys → r < length x
 values-go xs ys r g lt =
     elim (slice_get_cases xs r).1 [
       | inl c ↦
-        let f = g.found r c.0 c.2 in
-        ap values_of f.1 ∙ f.2 ∙ sym (ap values_of c.2)
+          let f = g.found r c.0 c.2 in
+          ap values_of f.1 ∙ f.2 ∙ sym (ap values_of c.2)
       | inr c ↦ absurd (omega (arith, c.0))
     ]
 
@@ -249,10 +249,10 @@ follows-added : (b c : Board) (e : Entry) → Newcomer b c e → BuffersGo b.buf
 follows-added b c e n g w = record {
   sees = λ k x r. sees-go b c k x g r;
   stays = λ k x r.
-    (let lt : k < length b.entries = slice_get_within b.entries k x r.at in
-    ( ap (λ l. slice_get l k) n.added ∙ get-append b.entries (e ∷ []) k lt ∙ r.at
-    , is_free-front c.entries b.entries k x (ap (take k) n.added ∙ take-append-le k b.entries (e ∷ []) (omega arith)) ∙ r.free
-    ));
+      (let lt : k < length b.entries = slice_get_within b.entries k x r.at in (
+        ap (λ l. slice_get l k) n.added ∙ get-append b.entries (e ∷ []) k lt ∙ r.at,
+        is_free-front c.entries b.entries k x (ap (take k) n.added ∙ take-append-le k b.entries (e ∷ []) (omega arith)) ∙ r.free,
+      ));
   orderly = orderly-added b c e n g w;
 }
 
@@ -267,14 +267,14 @@ closed-other b j k x e g st r q =
 follows-after : (b : Board) (a : Act) (j : ℕ) (x : Entry) → x.stage ≡ stage.Granted → (IsOrderly b → Acts b a j x) → IsAt b.entries j x → Follows b (after a j b)
 follows-after b a j x st c g = record {
   sees = λ k e r.
-    (let ca = c r.orderly in
-    let pe = free-pending b.entries k e r.free in
-    let m = strangers b.entries j k x e (closed-other b j k x e g st r) g r.at ca.undone (pending-open e.stage pe) ca.unheld (free-unheld b.entries k e r.free) in
-    seen-kept a.cells x.needs x.place b.buffers e.needs e.work e.place ca.of.keeps (meet_comm x.needs e.needs x.place e.place m) (λ t i w. r.orderly.whole k t i e (r.at, pe) w));
-  stays = λ k e r.
-    ( get-changed_other (with_stage a.stage) j k b.entries (λ q. closed-other b j k x e g st r (sym q)) ∙ r.at
-    , free-changed a.stage j k b.entries x e g (c r.orderly).undone r.free
-    );
+      (let ca = c r.orderly in
+      let pe = free-pending b.entries k e r.free in
+      let m = strangers b.entries j k x e (closed-other b j k x e g st r) g r.at ca.undone (pending-open e.stage pe) ca.unheld (free-unheld b.entries k e r.free) in
+      seen-kept a.cells x.needs x.place b.buffers e.needs e.work e.place ca.of.keeps (meet_comm x.needs e.needs x.place e.place m) (λ t i w. r.orderly.whole k t i e (r.at, pe) w));
+  stays = λ k e r. (
+    get-changed_other (with_stage a.stage) j k b.entries (λ q. closed-other b j k x e g st r (sym q)) ∙ r.at,
+    free-changed a.stage j k b.entries x e g (c r.orderly).undone r.free,
+  );
   orderly = λ o. orderly-after b a j x o (c o);
 }
 
@@ -284,24 +284,24 @@ printed-follows : (b : Board) (t : ℕ) (bytes : List ℕ) → is_idle (slice_ge
 unfolding printed
 printed-follows b t bytes i =
     follows-if b _ _ (nat_le (length b.output + length bytes) (2 ^ 24))
-      (λ h. follows-same b _ refl (buffers-stay b.buffers) (waits-set b.waits t _ i))
-      (follows-same b _ refl (buffers-stay b.buffers) (waits-stay b.waits))
+    (λ h. follows-same b _ refl (buffers-stay b.buffers) (waits-set b.waits t _ i))
+    (follows-same b _ refl (buffers-stay b.buffers) (waits-stay b.waits))
 
 made_buffer-follows : (b : Board) (t : ℕ) (m : NewBuffer) → is_idle (slice_get b.waits t) ≡ true → Follows b (made_buffer b t m)
 unfolding made_buffer
 made_buffer-follows b t m i =
     follows-if b _ b (has_count (product m.range) m.init)
-      (λ h. follows-if b _ _ (nat_le (live_elements b.buffers + product m.range) (2 ^ 22))
-        (λ k. follows-same b _ refl (buffers-append b.buffers _) (waits-set b.waits t _ i))
-        (follows-same b _ refl (buffers-stay b.buffers) (waits-set b.waits t _ i)))
-      (follows-itself b)
+    (λ h. follows-if b _ _ (nat_le (live_elements b.buffers + product m.range) (2 ^ 22))
+    (λ k. follows-same b _ refl (buffers-append b.buffers _) (waits-set b.waits t _ i))
+    (follows-same b _ refl (buffers-stay b.buffers) (waits-set b.waits t _ i)))
+    (follows-itself b)
 
 made_part-follows : (b : Board) (t r base n : ℕ) → is_idle (slice_get b.waits t) ≡ true → Follows b (made_part b t r base n)
 unfolding made_part
 made_part-follows b t r base n i =
     follows-if b _ b (is_root (slice_get b.buffers r) && nat_le (base + n) (count_of (slice_get b.buffers r)))
-      (λ h. follows-same b _ refl (buffers-append b.buffers _) (waits-set b.waits t _ i))
-      (follows-itself b)
+    (λ h. follows-same b _ refl (buffers-append b.buffers _) (waits-set b.waits t _ i))
+    (follows-itself b)
 
 same_thread : {t u : ℕ} → Some t ≡ Some u → t ≡ u
 same_thread p = cc
@@ -324,7 +324,7 @@ end_vector-follows b t r x g i =
       idle = λ u p. subst (λ j. is_idle (slice_get b.waits j) ≡ true) (same_thread p) i;
       there = one_there (length c.buffers) r _ refl (subst (λ j. r < j) (sym (length-changed with_end r b.buffers)) lt);
       whole = λ u q p. subst (λ j. NeedsWhole c.buffers j (end_entry t r x).needs) (same_buffer p)
-        (record { buffer = with_end x; found = get-changed with_end r b.buffers ∙ ap (option_map with_end) g; all = refl });
+          (record { buffer = with_end x; found = get-changed with_end r b.buffers ∙ ap (option_map with_end) g; all = refl });
     } in
     follows-added b c (end_entry t r x) n (buffers-ended b.buffers r) (waits-set b.waits t OnEntry i)
 
@@ -373,9 +373,9 @@ closed-follows b t j values x n ns i g st hn =
     let a = closing n values in
     let c = after a j b in
     follows-if b _ b (length values == n.to - n.from)
-      (λ h. subst (λ z. Follows b (reply z t Answered)) (sym (closed-is b n values j))
-        (follows-trans b c _ (follows-after b a j x st (λ o. closing-acts b j x n ns values o g st hn) g) (follows-same c _ refl (buffers-stay c.buffers) (waits-set c.waits t _ i))))
-      (follows-itself b)
+    (λ h. subst (λ z. Follows b (reply z t Answered)) (sym (closed-is b n values j))
+    (follows-trans b c _ (follows-after b a j x st (λ o. closing-acts b j x n ns values o g st hn) g) (follows-same c _ refl (buffers-stay c.buffers) (waits-set c.waits t _ i))))
+    (follows-itself b)
 
 close_entry-follows : (b : Board) (t j : ℕ) (values : List ℤ) (x : Entry) (s : Stage) (ns : List Need) → is_idle (slice_get b.waits t) ≡ true → IsAt b.entries j x → x.stage ≡ s → x.needs ≡ ns → Follows b (close_entry b t values j s ns)
 unfolding close_entry
@@ -399,8 +399,8 @@ made_context-follows : (b : Board) (t : ℕ) → is_idle (slice_get b.waits t) �
 unfolding made_context
 made_context-follows b t i =
     follows-if b _ _ (nat_lt b.places 17)
-      (λ h. follows-same b _ refl (buffers-stay b.buffers) (waits-set b.waits t _ i))
-      (follows-same b _ refl (buffers-stay b.buffers) (waits-set b.waits t _ i))
+    (λ h. follows-same b _ refl (buffers-stay b.buffers) (waits-set b.waits t _ i))
+    (follows-same b _ refl (buffers-stay b.buffers) (waits-set b.waits t _ i))
 
 made_queue-follows : (b : Board) (t : ℕ) (m : NewQueue) → is_idle (slice_get b.waits t) ≡ true → Follows b (made_queue b t m)
 unfolding made_queue
@@ -412,15 +412,15 @@ unfolding are_there
 roots_there xs [] h = refl
 roots_there xs (n ∷ ns) h =
     and_true (nat_lt n.buffer (length xs)) (are_there (length xs) ns)
-      (lt_test n.buffer (length xs) (root_need_there xs n (and_left (is_root_need xs n) (list_all (is_root_need xs) ns) h)))
-      (roots_there xs ns (and_right (is_root_need xs n) (list_all (is_root_need xs) ns) h))
+    (lt_test n.buffer (length xs) (root_need_there xs n (and_left (is_root_need xs n) (list_all (is_root_need xs) ns) h)))
+    (roots_there xs ns (and_right (is_root_need xs n) (list_all (is_root_need xs) ns) h))
 
 holds_there : (b : Board) (m : Submission) → holds_together b m ≡ true → are_there (length b.buffers) m.needs ≡ true
 unfolding holds_together are_root_needs
 holds_there b m h =
     roots_there b.buffers m.needs
-      (and_left (list_all (is_root_need b.buffers) m.needs) (are_different m.needs)
-        (and_left (list_all (is_root_need b.buffers) m.needs && are_different m.needs) (are_below b.nodes m.after && has_needs m.needs m.command) h))
+    (and_left (list_all (is_root_need b.buffers) m.needs) (are_different m.needs)
+    (and_left (list_all (is_root_need b.buffers) m.needs && are_different m.needs) (are_below b.nodes m.after && has_needs m.needs m.command) h))
 
 added-follows : (b : Board) (t : ℕ) (m : Submission) (x : Queue) → is_idle (slice_get b.waits t) ≡ true → are_there (length b.buffers) m.needs ≡ true → Follows b (add_node b t (node_entry b.nodes m x))
 added-follows b t m x i h =
@@ -461,8 +461,8 @@ spawned-follows : (b : Board) (t : ℕ) → is_idle (slice_get b.waits t) ≡ tr
 unfolding spawned
 spawned-follows b t i =
     follows-if b _ _ (nat_lt (length b.waits) 64)
-      (λ h. follows-same b _ refl (buffers-stay b.buffers) (waits-grown b.waits t _ i))
-      (follows-same b _ refl (buffers-stay b.buffers) (waits-stay b.waits))
+    (λ h. follows-same b _ refl (buffers-stay b.buffers) (waits-grown b.waits t _ i))
+    (follows-same b _ refl (buffers-stay b.buffers) (waits-stay b.waits))
 
 pub apply-follows : (b : Board) (t : ℕ) (q : Ask) → is_idle (slice_get b.waits t) ≡ true → Follows b (apply b t q)
 unfolding apply

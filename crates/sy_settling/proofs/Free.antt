@@ -1,6 +1,6 @@
 -- Entries that may take effect, while others change their stage.
-use Rattle.std.proofs.Common.{◌≡◌, ◌≢◌, ℕ, zero, suc, ◌<◌, ◌≤◌, List, [], ◌∷◌, take, Bool, true, false, Option, Some, None, refl, sym, ap, ◌∙◌, subst, arith, inl, inr}
-use Rattle.std.specs.Prelude.{slice_get, not, ◌&&◌, ◌||◌}
+use Rattle.std.proofs.Common.{◌≡◌, ◌≢◌, ℕ, zero, suc, ◌<◌, List, [], ◌∷◌, take, Bool, true, false, refl, sym, ap, ◌∙◌, subst, inl, inr}
+use Rattle.std.specs.Prelude.{not, ◌&&◌, ◌||◌}
 use Rattle.std.specs.List.{list_any}
 use Rattle.std.proofs.lemmas.Bool.{cases_order}
 use Rattle.sy_onecopy.specs.declared.Entry.{Entry}
@@ -10,8 +10,8 @@ use Rattle.sy_onecopy.specs.Each.{changed_at}
 use Rattle.sy_onecopy.specs.Before.{meets, meet, before, blocks, is_named, both_on, is_pending, is_done, is_held, is_free}
 use Rattle.sy_onecopy.specs.Settle.{with_stage}
 use Rattle.sy_onecopy.specs.Laws.{needs_meet}
-use Rattle.sy_settling.specs.Orderly.{IsAt, IsPendingAt}
-use Rattle.sy_settling.proofs.Lists.{get-take, get-of_take, get-changed, get-changed_other, take-changed, take-changed_past, or_left, or_right, or_false, and_left, and_right, and_true, not_true, some_is, any-at}
+use Rattle.sy_settling.specs.Orderly.{IsAt}
+use Rattle.sy_settling.proofs.Lists.{get-take, get-of_take, take-changed, or_left, or_right, or_false, and_left, and_right, and_true, not_true, some_is, any-at}
 use Rattle.sy_settling.proofs.Cells.{meet_comm}
 
 pub free-pending : (xs : List Entry) (k : ℕ) (e : Entry) → is_free xs k e ≡ true → is_pending e.stage ≡ true

@@ -1,29 +1,26 @@
 -- What an effect keeps of a board, and effects in another order.
-use Rattle.std.proofs.Common.{◌≡◌, ◌≢◌, ℕ, ◌<◌, ◌≤◌, List, [], ◌∷◌, length, take, Bool, true, false, Option, Some, None, refl, sym, ap, ◌∙◌, subst, inl, inr, arith}
-use Rattle.std.specs.Prelude.{slice_get, option_map}
+use Rattle.std.proofs.Common.{◌≡◌, ◌≢◌, ℕ, List, [], ◌∷◌, take, true, false, Some, refl, sym, ap, ◌∙◌, subst, inl, inr, arith}
+use Rattle.std.specs.Prelude.{option_map}
 use Rattle.std.proofs.lemmas.Bool.{cases_eq}
 use Rattle.sy_access.specs.declared.access.Need.{Need}
 use Rattle.sy_access.specs.declared.access.Mode.TheVariants.{ReadWrite}
 use Rattle.sy_work.specs.Programs.{OutcomeOf}
 use Rattle.sy_onecopy.specs.declared.Buffer.{Buffer}
 use Rattle.sy_onecopy.specs.declared.Entry.{Entry}
-use Rattle.sy_onecopy.specs.declared.Work.{Work}
-use Rattle.sy_onecopy.specs.declared.Work.TheVariants.{Node, Access, End}
+use Rattle.sy_onecopy.specs.declared.Work.TheVariants.{End}
 use Rattle.sy_onecopy.specs.declared.Stage.{Stage}
 use Rattle.sy_onecopy.specs.declared.Stage.TheVariants.{Granted}
 use Rattle.sy_onecopy.specs.declared.Waits.{Waits}
-use Rattle.sy_onecopy.specs.declared.Waits.TheVariants.{OnEntry}
 use Rattle.sy_onecopy.specs.Each.{changed_at}
 use Rattle.sy_onecopy.specs.State.{Board}
 use Rattle.sy_onecopy.specs.Before.{is_pending, is_done, is_held, is_free}
 use Rattle.sy_onecopy.specs.Settle.{with_stage, effect}
 use Rattle.sy_onecopy.specs.Laws.{needs_meet}
-use Rattle.sy_onecopy.specs.Step.{whole}
 use Rattle.sy_settling.specs.Orderly.{IsAt, IsPendingAt, waiter, are_there, NeedsWhole, IsOrderly}
 use Rattle.sy_settling.proofs.Lists.{get-changed, get-changed_other, changed-swap, length-each, take-changed_past, some_is}
 use Rattle.sy_settling.proofs.Cells.{Cells, buffer_by, mapped, get-mapped, apart-swap, meet_comm}
-use Rattle.sy_settling.proofs.Acts.{Act, ActOf, act-of, act, seen, seen-kept, told, told-swap, told-other, after, build, build-same, effect-is}
-use Rattle.sy_settling.proofs.Free.{free-pending, free-unheld, free-from, pending-open, strangers, unheld-changed, free-changed, held-restaged, staged-at}
+use Rattle.sy_settling.proofs.Acts.{Act, ActOf, act-of, act, seen, seen-kept, told-swap, told-other, after, build-same, effect-is}
+use Rattle.sy_settling.proofs.Free.{free-pending, free-unheld, pending-open, strangers, unheld-changed, held-restaged, staged-at}
 
 -- ---- pending entries while one comes to a stage
 
@@ -68,15 +65,15 @@ untold b a k j t e x o c px w ne d p q = ne (o.alone j k t x e px (c.at, c.pends
 open_after : (b : Board) (a : Act) (k j : ℕ) (e x : Entry) → IsOrderly b → Acts b a k e → IsAt (changed_at (with_stage a.stage) k b.entries) j x → x.stage ≡ Granted → is_held (take j (changed_at (with_stage a.stage) k b.entries)) x ≡ false
 open_after b a k j e x o c h st = elim (cases_eq j k) [
   | inl q ↦
-    let s = a.stage in
-    let here : IsAt (changed_at (with_stage s) k b.entries) k x = subst (λ i. IsAt (changed_at (with_stage s) k b.entries) i x) q h in
-    let is : with_stage s e ≡ x = some_is (sym (get-changed (with_stage s) k b.entries ∙ ap (option_map (with_stage s)) c.at) ∙ here) in
-    let at : is_held (take k b.entries) (with_stage s e) ≡ false = held-restaged s (take k b.entries) e ∙ c.unheld in
-    subst (λ i. is_held (take i (changed_at (with_stage s) k b.entries)) x ≡ false) (sym q)
-    (ap (λ l. is_held l x) (take-changed_past (with_stage s) k k b.entries (omega arith)) ∙ subst (λ z. is_held (take k b.entries) z ≡ false) is at)
+      let s = a.stage in
+      let here : IsAt (changed_at (with_stage s) k b.entries) k x = subst (λ i. IsAt (changed_at (with_stage s) k b.entries) i x) q h in
+      let is : with_stage s e ≡ x = some_is (sym (get-changed (with_stage s) k b.entries ∙ ap (option_map (with_stage s)) c.at) ∙ here) in
+      let at : is_held (take k b.entries) (with_stage s e) ≡ false = held-restaged s (take k b.entries) e ∙ c.unheld in
+      subst (λ i. is_held (take i (changed_at (with_stage s) k b.entries)) x ≡ false) (sym q)
+      (ap (λ l. is_held l x) (take-changed_past (with_stage s) k k b.entries (omega arith)) ∙ subst (λ z. is_held (take k b.entries) z ≡ false) is at)
   | inr ne ↦
-    let was : IsAt b.entries j x = sym (get-changed_other (with_stage a.stage) k j b.entries ne) ∙ h in
-    unheld-changed a.stage k j b.entries e x c.at c.undone (o.open_first j x was st)
+      let was : IsAt b.entries j x = sym (get-changed_other (with_stage a.stage) k j b.entries ne) ∙ h in
+      unheld-changed a.stage k j b.entries e x c.at c.undone (o.open_first j x was st)
 ]
 
 pub orderly-after : (b : Board) (a : Act) (k : ℕ) (e : Entry) → IsOrderly b → Acts b a k e → IsOrderly (after a k b)
@@ -84,8 +81,8 @@ orderly-after b a k e o c =
     let m = c.of.moves in
     record {
       awaited = λ j t x p w.
-        told-other a.due b.waits t (untold b a k j t e x o c (was-pending a.stage k j b.entries x m p) w (other-pending a.stage k j b.entries x m p))
-        ∙ o.awaited j t x (was-pending a.stage k j b.entries x m p) w;
+          told-other a.due b.waits t (untold b a k j t e x o c (was-pending a.stage k j b.entries x m p) w (other-pending a.stage k j b.entries x m p))
+          ∙ o.awaited j t x (was-pending a.stage k j b.entries x m p) w;
       alone = λ i j t x y p q v w. o.alone i j t x y (was-pending a.stage k i b.entries x m p) (was-pending a.stage k j b.entries y m q) v w;
       there = λ j x p. ap (λ n. are_there n x.needs) (length-each (buffer_by a.cells) 0 b.buffers) ∙ o.there j x (was-pending a.stage k j b.entries x m p);
       whole = λ j t r x p w. whole-mapped a.cells b.buffers r x.needs (o.whole j t r x (was-pending a.stage k j b.entries x m p) w);

@@ -1,5 +1,5 @@
 -- An ask before settling and after it.
-use Rattle.std.proofs.Common.{◌≡◌, ◌≢◌, ℕ, zero, suc, List, [], ◌∷◌, length, Bool, true, false, Option, Some, None, refl, sym, ap, ◌∙◌, subst, inl, inr}
+use Rattle.std.proofs.Common.{◌≡◌, ℕ, zero, suc, List, [], ◌∷◌, length, Bool, true, false, Option, Some, None, refl, sym, ap, ◌∙◌, subst, inl, inr}
 use Rattle.std.specs.Prelude.{slice_get, not, ◌&&◌}
 use Rattle.std.specs.List.{list_any}
 use Rattle.std.proofs.lemmas.Bool.{cases_Bool}
@@ -12,7 +12,7 @@ use Rattle.sy_onecopy.specs.declared.Waits.TheVariants.{Never}
 use Rattle.sy_onecopy.specs.Each.{changed_at}
 use Rattle.sy_onecopy.specs.State.{Board}
 use Rattle.sy_onecopy.specs.Before.{is_done, is_free}
-use Rattle.sy_onecopy.specs.Settle.{with_stage, await, effect, settle_entry, settle_one, settle_upto, settle}
+use Rattle.sy_onecopy.specs.Settle.{with_stage, effect, settle_entry, settle_one, settle_upto, settle}
 use Rattle.sy_onecopy.specs.Step.{apply, begun, is_node_on}
 use Rattle.sy_onecopy.specs.Sequence.{is_clear, has_open_node_on}
 use Rattle.sy_settling.specs.Orderly.{IsAt, is_idle, IsOrderly, MayAsk}
@@ -20,9 +20,9 @@ use Rattle.sy_settling.proofs.Lists.{or_left, or_right, or_false, some_is}
 use Rattle.sy_settling.proofs.Acts.{Act, told-other, after}
 use Rattle.sy_settling.proofs.Free.{free-pending}
 use Rattle.sy_settling.proofs.Kept.{act_at, act_at-acts, act_at-seen, effect-act, Ready}
-use Rattle.sy_settling.proofs.Settling.{entry-none, entry-free, upto-keeps, settle-keeps, Passes, passes-settle}
+use Rattle.sy_settling.proofs.Settling.{entry-none, entry-free, upto-keeps, Passes, passes-settle}
 use Rattle.sy_settling.proofs.Asks.{Scene, untold, await-after, apply-after, off_queue}
-use Rattle.sy_settling.proofs.Follows.{Follows, ready-go, apply-follows}
+use Rattle.sy_settling.proofs.Follows.{ready-go, apply-follows}
 
 pub scene : (out : OutcomeOf) (b : Board) (k : ℕ) (e : Entry) (t : ℕ) → is_idle (slice_get b.waits t) ≡ true → Ready b k e → Scene b (act_at out b e) k e t
 scene out b k e t i r = record { orderly = r.orderly; acts = act_at-acts out b k e r.at r.free; pending = free-pending b.entries k e r.free; idle = i }
@@ -45,7 +45,7 @@ clear-changed q s k [] e g n h = refl
 clear-changed q s zero (x ∷ xs) e g n h =
     let at : is_node_on q x.work ≡ false = ap (λ (y : Entry). is_node_on q y.work) (some_is g) ∙ n in
     or_false (is_node_on q x.work && not (is_done s)) (list_any (λ y. is_node_on q y.work && not (is_done y.stage)) xs) (no_first (is_node_on q x.work) (not (is_done s)) at)
-      (or_right (is_node_on q x.work && not (is_done x.stage)) (list_any (λ y. is_node_on q y.work && not (is_done y.stage)) xs) h)
+    (or_right (is_node_on q x.work && not (is_done x.stage)) (list_any (λ y. is_node_on q y.work && not (is_done y.stage)) xs) h)
 clear-changed q s (suc k) (x ∷ xs) e g n h =
     let rest = list_any (λ y. is_node_on q y.work && not (is_done y.stage)) xs in
     let first = is_node_on q x.work && not (is_done x.stage) in
@@ -73,7 +73,7 @@ pub apply-effect : (out : OutcomeOf) (b : Board) (k : ℕ) (e : Entry) (t : ℕ)
 apply-effect out b k e t q m r =
     ap (λ z. apply z t q) (effect-act out b k e) ∙ sym (apply-after b (act_at out b e) k e t q (scene out b k e t m.idle r) m.clear)
 
-commutes : (out : OutcomeOf) (b : Board) (k : ℕ) (e : Entry) (t : ℕ) (q : Ask) → MayAsk b t q → Ready b k e → effect out (apply b t q) k e e.work ≡ apply (effect out b k e e.work) t q
+pub commutes : (out : OutcomeOf) (b : Board) (k : ℕ) (e : Entry) (t : ℕ) (q : Ask) → MayAsk b t q → Ready b k e → effect out (apply b t q) k e e.work ≡ apply (effect out b k e e.work) t q
 commutes out b k e t q m r =
     effect-act out (apply b t q) k e
     ∙ ap (λ a. after a k (apply b t q)) (act_at-seen out b (apply b t q) e ((apply-follows b t q m.idle).sees k e r))
@@ -103,8 +103,8 @@ begun_found : (out : OutcomeOf) (b : Board) (n t : ℕ) (v : Option Entry) → s
 begun_found out b n t None g o i = entry-none out (begun b t) n ∙ ap (λ z. begun z t) (sym (entry-none out b n))
 begun_found out b n t (Some x) g o i = elim (cases_Bool (is_free b.entries n x)) [
   | inl f ↦
-    entry-free out (begun b t) n x true f ∙ begun-effect out b n x t i (record { orderly = o; at = g; free = f })
-    ∙ ap (λ z. begun z t) (sym (entry-free out b n x true f))
+      entry-free out (begun b t) n x true f ∙ begun-effect out b n x t i (record { orderly = o; at = g; free = f })
+      ∙ ap (λ z. begun z t) (sym (entry-free out b n x true f))
   | inr f ↦ entry-free out (begun b t) n x false f ∙ ap (λ z. begun z t) (sym (entry-free out b n x false f))
 ]
 

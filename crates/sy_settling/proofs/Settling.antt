@@ -1,5 +1,5 @@
 -- Effects before a pass, and changes that commute with them.
-use Rattle.std.proofs.Common.{◌≡◌, ◌≢◌, ℕ, zero, suc, ◌+◌, ◌-◌, ◌<◌, ◌≤◌, List, [], ◌∷◌, length, take, Bool, true, false, Option, Some, None, refl, sym, ap, ◌∙◌, subst, inl, inr, arith}
+use Rattle.std.proofs.Common.{◌≡◌, ◌≢◌, ℕ, zero, suc, ◌+◌, ◌-◌, ◌<◌, ◌≤◌, List, length, take, Bool, true, false, Option, Some, None, refl, sym, ap, ◌∙◌, subst, inl, inr, arith}
 use Rattle.std.specs.Prelude.{⊤, slice_get, option_map, if◌then◌else◌, not, ◌&&◌}
 use Rattle.std.proofs.lemmas.Bool.{cases_Bool}
 use Rattle.std.proofs.lemmas.Option.{slice_get_within}
@@ -9,9 +9,8 @@ use Rattle.sy_onecopy.specs.Each.{changed_at}
 use Rattle.sy_onecopy.specs.State.{Board}
 use Rattle.sy_onecopy.specs.Before.{is_pending, is_held, is_free}
 use Rattle.sy_onecopy.specs.Settle.{with_stage, effect, settle_entry, settle_one, settle_upto, settle}
-use Rattle.sy_settling.specs.Orderly.{IsAt, IsOrderly}
+use Rattle.sy_settling.specs.Orderly.{IsOrderly}
 use Rattle.sy_settling.proofs.Lists.{get-changed, get-changed_other, length-changed, take-changed_past}
-use Rattle.sy_settling.proofs.Acts.{Act, ActOf}
 use Rattle.sy_settling.proofs.Free.{free-pending, pending-open, free-changed}
 use Rattle.sy_settling.proofs.Kept.{act_at, act_at-of, effect-act, Ready, orderly-effect, effects-swap}
 
@@ -80,15 +79,15 @@ other_found : (out : OutcomeOf) (b : Board) (n k : ℕ) (e : Entry) (v : Option 
 other_found out b n k e None g lt r = entry-none out (effect out b k e e.work) n ∙ ap (λ c. effect out c k e e.work) (sym (entry-none out b n))
 other_found out b n k e (Some x) g lt r = elim (cases_Bool (is_free b.entries n x)) [
   | inl f ↦
-    let ne : k ≢ n = λ q. absurd (omega arith) in
-    let rx : Ready b n x = record { orderly = r.orderly; at = g; free = f } in
-    entry-free out (effect out b k e e.work) n x true (ready-other out b k n e x ne r rx).free
-    ∙ effects-swap out b k n e x ne r rx
-    ∙ ap (λ c. effect out c k e e.work) (sym (entry-free out b n x true f))
+      let ne : k ≢ n = λ q. absurd (omega arith) in
+      let rx : Ready b n x = record { orderly = r.orderly; at = g; free = f } in
+      entry-free out (effect out b k e e.work) n x true (ready-other out b k n e x ne r rx).free
+      ∙ effects-swap out b k n e x ne r rx
+      ∙ ap (λ c. effect out c k e e.work) (sym (entry-free out b n x true f))
   | inr f ↦
-    let front : take n (effect out b k e e.work).entries ≡ take n b.entries = ap (take n) (effect-entries out b k e) ∙ take-changed_past (with_stage (act_at out b e).stage) n k b.entries (omega arith) in
-    entry-free out (effect out b k e e.work) n x false (is_free-front (effect out b k e e.work).entries b.entries n x front ∙ f)
-    ∙ ap (λ c. effect out c k e e.work) (sym (entry-free out b n x false f))
+      let front : take n (effect out b k e e.work).entries ≡ take n b.entries = ap (take n) (effect-entries out b k e) ∙ take-changed_past (with_stage (act_at out b e).stage) n k b.entries (omega arith) in
+      entry-free out (effect out b k e e.work) n x false (is_free-front (effect out b k e e.work).entries b.entries n x front ∙ f)
+      ∙ ap (λ c. effect out c k e e.work) (sym (entry-free out b n x false f))
 ]
 
 other_one : (out : OutcomeOf) (b : Board) (n k : ℕ) (e : Entry) → n < k → Ready b k e → settle_one out n (effect out b k e e.work) ≡ effect out (settle_one out n b) k e e.work
@@ -137,7 +136,7 @@ effect-settle out b k e r =
     let as_long : length (effect out b k e e.work).entries ≡ n = ap length (effect-entries out b k e) ∙ length-changed (with_stage (act_at out b e).stage) k b.entries in
     ap (settle_upto out (effect out b k e e.work)) as_long
     ∙ subst (λ i. settle_upto out (effect out b k e e.work) i ≡ settle_upto out b i) (let q : suc k + (n - suc k) ≡ n = omega arith in q)
-      (same-on out (effect out b k e e.work) b (suc k) (n - suc k) (here_same out b k e r))
+    (same-on out (effect out b k e e.work) b (suc k) (n - suc k) (here_same out b k e r))
 
 -- ---- a change that each effect commutes with
 
@@ -149,4 +148,4 @@ pub record Passes (out : OutcomeOf) (P : Board → Type 0) (g : Board → Board)
 pub passes-settle : (out : OutcomeOf) (P : Board → Type 0) (g : Board → Board) → Passes out P g → (b : Board) → IsOrderly b → P b → settle out (g (settle out b)) ≡ settle out (g b)
 passes-settle out P g h b o p =
     (settle-keeps (λ c. P c × (settle out (g c) ≡ settle out (g b))) out
-      (λ c n x q r. (h.keeps c n x q.0 r, ap (settle out) (sym (h.commutes c n x q.0 r)) ∙ effect-settle out (g c) n x (h.readies c n x q.0 r) ∙ q.1)) b o (p, refl)).1
+    (λ c n x q r. (h.keeps c n x q.0 r, ap (settle out) (sym (h.commutes c n x q.0 r)) ∙ effect-settle out (g c) n x (h.readies c n x q.0 r) ∙ q.1)) b o (p, refl)).1

@@ -1,9 +1,8 @@
 -- Boards whose entries may not have settled yet.
-use Rattle.std.specs.Prelude.{◌≡◌, ℕ, Bool, true, false, not, ◌&&◌, ◌==◌, nat_lt, List, [], ◌∷◌, length, map, take, Option, Some, None, slice_get}
-use Rattle.std.specs.List.{list_any, list_all}
+use Rattle.std.specs.Prelude.{◌≡◌, ℕ, Bool, true, false, nat_lt, List, [], ◌∷◌, length, map, take, Option, Some, None, slice_get}
+use Rattle.std.specs.List.{list_all}
 use Rattle.sy_access.specs.declared.access.Need.{Need}
 use Rattle.sy_work.specs.declared.asks.Ask.{Ask}
-use Rattle.sy_work.specs.declared.asks.Ask.TheVariants.{ThrowQueue}
 use Rattle.sy_onecopy.specs.declared.Buffer.{Buffer}
 use Rattle.sy_onecopy.specs.declared.Origin.{Origin}
 use Rattle.sy_onecopy.specs.declared.Entry.{Entry}
@@ -12,7 +11,7 @@ use Rattle.sy_onecopy.specs.declared.Work.TheVariants.{Node, Access, End}
 use Rattle.sy_onecopy.specs.declared.Stage.TheVariants.{Pending, Granted}
 use Rattle.sy_onecopy.specs.declared.Waits.{Waits}
 use Rattle.sy_onecopy.specs.declared.Waits.TheVariants.{OnEntry}
-use Rattle.sy_onecopy.specs.Before.{is_pending, is_held}
+use Rattle.sy_onecopy.specs.Before.{is_pending, is_held, is_free}
 use Rattle.sy_onecopy.specs.State.{Board}
 use Rattle.sy_onecopy.specs.Settle.{with_stage}
 use Rattle.sy_onecopy.specs.Step.{whole}
@@ -25,6 +24,10 @@ IsAt entries k e = slice_get entries k ≡ Some e
 -- this entry stands at k and is pending
 abbrev pub IsPendingAt : List Entry → ℕ → Entry → Type 0
 IsPendingAt entries k e = IsAt entries k e × (is_pending e.stage ≡ true)
+
+-- this entry stands at k and may take effect
+abbrev pub IsFreeAt : List Entry → ℕ → Entry → Type 0
+IsFreeAt entries k e = IsAt entries k e × (is_free entries k e ≡ true)
 
 -- the thread that asked for the entry waits for its effect
 abbrev pub waiter : Work → Option ℕ

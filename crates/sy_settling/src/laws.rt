@@ -4,16 +4,22 @@ ghost use Rattle.std.specs.Prelude.{◌≡◌, ℕ, List, true, Some, slice_get}
 ghost use Rattle.sy_work.specs.declared.asks.Ask.{Ask};
 ghost use Rattle.sy_work.specs.Programs.{OutcomeOf, Program};
 ghost use Rattle.sy_onecopy.specs.declared.Entry.{Entry};
-ghost use Rattle.sy_onecopy.specs.Before.{is_free};
 ghost use Rattle.sy_onecopy.specs.Settle.{effect, settle};
 ghost use Rattle.sy_onecopy.specs.State.{Board, State, next_ask, opening};
 ghost use Rattle.sy_onecopy.specs.Step.{apply, begun, give_all};
 ghost use Rattle.sy_onecopy.specs.Sequence.{is_legal, seq};
-ghost use Rattle.sy_settling.specs.Orderly.{IsAlike, IsAt, IsOrderly, MayAsk, is_idle};
+ghost use Rattle.sy_settling.specs.Orderly.{IsAlike, IsFreeAt, IsOrderly, MayAsk, is_idle};
 
 /// An entry that may take effect does so, whichever it is, and then the board settles: that is settling.
 pub fn one_effect_then_settling()
-    ensures { (out : OutcomeOf) (b : Board) (k : ℕ) (e : Entry) → IsOrderly b → IsAt b.entries k e → is_free b.entries k e ≡ true → settle out (effect out b k e e.work) ≡ settle out b }
+    ensures { (out : OutcomeOf) (b : Board) (k : ℕ) (e : Entry) → IsOrderly b → IsFreeAt b.entries k e → settle out (effect out b k e e.work) ≡ settle out b }
+{}
+
+/// An entry that may take effect before an ask has its effect may do so after it, and either order
+/// leaves the same.
+pub fn effects_commute_with_asks()
+    ensures free { (b : Board) (k : ℕ) (e : Entry) (t : ℕ) (q : Ask) → IsOrderly b → IsFreeAt b.entries k e → MayAsk b t q → IsFreeAt (apply b t q).entries k e }
+    ensures commutes { (out : OutcomeOf) (b : Board) (k : ℕ) (e : Entry) (t : ℕ) (q : Ask) → IsOrderly b → IsFreeAt b.entries k e → MayAsk b t q → effect out (apply b t q) k e e.work ≡ apply (effect out b k e e.work) t q }
 {}
 
 /// Settling before a thread's step is begun or its ask has its effect, and after it, is settling after it.
@@ -35,8 +41,8 @@ pub fn settling_keeps()
 /// asks and answers.
 pub fn order_is_kept()
     ensures opening { IsOrderly opening }
-    ensures effect { (out : OutcomeOf) (b : Board) (k : ℕ) (e : Entry) → IsOrderly b → IsAt b.entries k e → is_free b.entries k e ≡ true → IsOrderly (effect out b k e e.work) }
-    ensures may_ask { (out : OutcomeOf) (b : Board) (k : ℕ) (e : Entry) (t : ℕ) (q : Ask) → IsOrderly b → IsAt b.entries k e → is_free b.entries k e ≡ true → MayAsk b t q → MayAsk (effect out b k e e.work) t q }
+    ensures effect { (out : OutcomeOf) (b : Board) (k : ℕ) (e : Entry) → IsOrderly b → IsFreeAt b.entries k e → IsOrderly (effect out b k e e.work) }
+    ensures may_ask { (out : OutcomeOf) (b : Board) (k : ℕ) (e : Entry) (t : ℕ) (q : Ask) → IsOrderly b → IsFreeAt b.entries k e → MayAsk b t q → MayAsk (effect out b k e e.work) t q }
     ensures settled { (out : OutcomeOf) (b : Board) → IsOrderly b → IsOrderly (settle out b) }
     ensures begun { (b : Board) (t : ℕ) → IsOrderly b → is_idle (slice_get b.waits t) ≡ true → IsOrderly (begun b t) }
     ensures asked { (b : Board) (t : ℕ) (q : Ask) → IsOrderly b → MayAsk b t q → IsOrderly (apply b t q) }

@@ -1,6 +1,8 @@
-//! A law of the one-copy machine: entries that settle late leave the same. Settling before an ask has
-//! its effect and after it is settling after it, whatever had settled before. These are laws of the
-//! definitions; no code of the runtime is here.
+//! Laws of the one-copy machine on boards whose entries have not settled yet: settling before an ask
+//! has its effect and after it is settling after it, and each entry may take effect in its turn. No
+//! code of the runtime is here.
 #![tactic(auto)]
 
 pub mod laws;
+#[cfg(test)]
+mod tests;

@@ -8,10 +8,10 @@ pub returns-clause-opening : goal.returns-clause-opening
 returns-clause-opening c = orderly-opening
 
 pub returns-clause-effect : goal.returns-clause-effect
-returns-clause-effect c out b k e o g f = orderly-effect out b k e (record { orderly = o; at = g; free = f })
+returns-clause-effect c out b k e o f = orderly-effect out b k e (record { orderly = o; at = f.0; free = f.1 })
 
 pub returns-clause-may_ask : goal.returns-clause-may_ask
-returns-clause-may_ask c out b k e t q o g f m = may_ask-effect out b k e t q m (record { orderly = o; at = g; free = f })
+returns-clause-may_ask c out b k e t q o f m = may_ask-effect out b k e t q m (record { orderly = o; at = f.0; free = f.1 })
 
 pub returns-clause-settled : goal.returns-clause-settled
 returns-clause-settled c = orderly-settle
