@@ -1,10 +1,12 @@
 -- An effect as one change of elements, one stage and one answer.
-use Rattle.std.proofs.Common.{◌≡◌, ◌≢◌, ℕ, ℤ, List, [], set, false, Option, Some, None, refl, sym, ap, ◌∙◌, subst}
+use Rattle.std.proofs.Common.{◌≡◌, ◌≢◌, ℕ, ℤ, List, [], set, false, Option, Some, None, refl, sym, ap, ◌∙◌, subst, inl, inr}
 use Rattle.std.specs.Prelude.{slice_get}
+use Rattle.std.proofs.lemmas.Bool.{cases_eq}
 use Rattle.sy_access.specs.declared.access.Need.{Need}
 use Rattle.sy_work.specs.Programs.{OutcomeOf, Input}
 use Rattle.sy_work.specs.declared.commands.Outcome.{Outcome}
 use Rattle.sy_work.specs.declared.commands.Outcome.TheVariants as outcome
+use Rattle.sy_work.specs.declared.asks.Answer.{Answer}
 use Rattle.sy_work.specs.declared.asks.Answer.TheVariants.{Contents}
 use Rattle.sy_onecopy.specs.declared.Buffer.{Buffer}
 use Rattle.sy_onecopy.specs.declared.Entry.{Entry}
@@ -13,7 +15,7 @@ use Rattle.sy_onecopy.specs.declared.Work.TheVariants.{Node, Access, End}
 use Rattle.sy_onecopy.specs.declared.Stage.{Stage}
 use Rattle.sy_onecopy.specs.declared.Stage.TheVariants.{Granted, Done, Failed}
 use Rattle.sy_onecopy.specs.declared.Waits.{Waits}
-use Rattle.sy_onecopy.specs.declared.Waits.TheVariants.{Due}
+use Rattle.sy_onecopy.specs.declared.Waits.TheVariants.{Due, OnQueue}
 use Rattle.sy_onecopy.specs.Each.{changed_at}
 use Rattle.sy_onecopy.specs.State.{Board}
 use Rattle.sy_onecopy.specs.Before.{is_pending}
@@ -21,7 +23,7 @@ use Rattle.sy_onecopy.specs.Outcome.{cell_after, buffer_after, buffers_after, va
 use Rattle.sy_onecopy.specs.Settle.{with_stage, took, effect, first_of}
 use Rattle.sy_onecopy.specs.Laws.{needs_meet}
 use Rattle.sy_settling.specs.Orderly.{waiter, NeedsWhole}
-use Rattle.sy_settling.proofs.Lists.{set-swap, get-set_other, some_is}
+use Rattle.sy_settling.proofs.Lists.{set-swap, get-set_other, set_is, some_is}
 use Rattle.sy_settling.proofs.Cells.{Cells, kept_cells, mapped, KeepsBut, kept_keep, after_keeps, mapped-kept, inputs-kept, whole-kept}
 
 -- the elements that change, the stage that the entry comes to, and who is told what
@@ -74,10 +76,11 @@ pub record ActOf (a : Act) (e : Entry) : Type 0 where
   pub keeps : KeepsBut a.cells e.needs
   pub moves : is_pending a.stage ≡ false
   pub tells : (d : ℕ × Waits) → a.due ≡ Some d → waiter e.work ≡ Some d.0
+  pub answers : (d : ℕ × Waits) → a.due ≡ Some d → (x : Answer) × (d.1 ≡ Due x)
 
 node_act-of : (e : Entry) (o : Outcome) → ActOf (node_act e.needs o) e
-node_act-of e (outcome.Wrote log) = record { keeps = after_keeps e.needs log; moves = refl; tells = λ d p. absurd cc }
-node_act-of e (outcome.Failed fault) = record { keeps = after_keeps e.needs []; moves = refl; tells = λ d p. absurd cc }
+node_act-of e (outcome.Wrote log) = record { keeps = after_keeps e.needs log; moves = refl; tells = λ d p. absurd cc; answers = λ d p. absurd cc }
+node_act-of e (outcome.Failed fault) = record { keeps = after_keeps e.needs []; moves = refl; tells = λ d p. absurd cc; answers = λ d p. absurd cc }
 
 pub act-of : (out : OutcomeOf) (e : Entry) (w : Work) (s : Seen) → e.work ≡ w → ActOf (act out e.needs w s) e
 act-of out e (Node n q c) s h = node_act-of e (out c s.0)
@@ -85,11 +88,13 @@ act-of out e (Access t i) s h = record {
   keeps = kept_keep e.needs;
   moves = refl;
   tells = λ d p. ap waiter h ∙ ap (λ (x : ℕ × Waits). Some x.0) (some_is p);
+  answers = λ d p. (Contents (first_of s.0), ap (λ (x : ℕ × Waits). x.1) (sym (some_is p)));
 }
 act-of out e (End t r) s h = record {
   keeps = kept_keep e.needs;
   moves = refl;
   tells = λ d p. ap waiter h ∙ ap (λ (x : ℕ × Waits). Some x.0) (some_is p);
+  answers = λ d p. (Contents s.1, ap (λ (x : ℕ × Waits). x.1) (sym (some_is p)));
 }
 
 pub told-swap : (c d : Option (ℕ × Waits)) (ws : List Waits) → ((x y : ℕ × Waits) → c ≡ Some x → d ≡ Some y → x.0 ≢ y.0) → told c (told d ws) ≡ told d (told c ws)
@@ -117,3 +122,14 @@ seen-kept h ys q buffers needs (Access t i) p k m n_whole = ap (λ l. (l, [])) (
 seen-kept h ys q buffers needs (End t r) p k m n_whole =
     let n = n_whole t r refl in
     ap (λ l. ([], l)) (whole-kept h ys p q r n.buffer buffers k n.found (subst (λ l. needs_meet l p ys q ≡ false) n.all m))
+
+-- no thread that is told something waits for a queue
+pub told-queued : (d : Option (ℕ × Waits)) (ws : List Waits) (t q n : ℕ) → ((x : ℕ × Waits) → d ≡ Some x → (a : Answer) × (x.1 ≡ Due a)) → slice_get (told d ws) t ≡ Some (OnQueue q n) → slice_get ws t ≡ Some (OnQueue q n)
+told-queued None ws t q n h g = g
+told-queued (Some x) ws t q n h g = elim (cases_eq t x.0) [
+  | inl e ↦
+    let here : slice_get (set ws x.0 x.1) x.0 ≡ Some (OnQueue q n) = subst (λ i. slice_get (set ws x.0 x.1) i ≡ Some (OnQueue q n)) e g in
+    let is : x.1 ≡ OnQueue q n = set_is ws x.0 x.1 (OnQueue q n) here in
+    absurd (let z : Due (h x refl).0 ≡ OnQueue q n = sym (h x refl).1 ∙ is in cc)
+  | inr ne ↦ sym (get-set_other ws x.0 t x.1 ne) ∙ g
+]

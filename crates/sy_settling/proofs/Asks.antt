@@ -255,6 +255,7 @@ closing-acts b j x n ns values o g st ne = record {
     keeps = subst (KeepsBut (put_by (writes n.mode) n values)) (sym ne) (closing-keeps n ns values);
     moves = refl;
     tells = λ d p. absurd cc;
+    answers = λ d p. absurd cc;
   };
 }
 

@@ -1,9 +1,10 @@
 -- What an ask leaves of the entries that may take effect, and of the order of the board.
 use Rattle.std.proofs.Common.{◌≡◌, ◌≢◌, ℕ, zero, suc, ◌+◌, ◌-◌, ◌<◌, ◌≤◌, ℤ, List, [], ◌∷◌, ◌++◌, length, take, map, set, Bool, true, false, Option, Some, None, ◌⊎◌, refl, sym, ap, ◌∙◌, subst, inl, inr, arith}
-use Rattle.std.specs.Prelude.{◌^◌, slice_get, option_map, if◌then◌else◌, ◌&&◌, ◌==◌, nat_lt, nat_le}
-use Rattle.std.specs.List.{list_all}
-use Rattle.std.proofs.lemmas.List.{take-append-le, length-append}
-use Rattle.std.proofs.lemmas.Bool.{cases_eq}
+use Rattle.std.specs.Prelude.{◌^◌, slice_get, option_map, if◌then◌else◌, not, ◌&&◌, ◌||◌, ◌==◌, nat_lt, nat_le}
+use Rattle.std.specs.List.{list_any, list_all}
+use Rattle.std.proofs.lemmas.List.{take-append-le, length-append, length-set}
+use Rattle.std.proofs.lemmas.Bool.{cases_Bool, cases_eq}
+use Rattle.std.proofs.lemmas.List.Folds.{list_any-append, list_all-append}
 use Rattle.std.proofs.lemmas.Bool.Decides.{nat_tests}
 use Rattle.std.proofs.lemmas.Option.{slice_get_within, slice_get_cases}
 use Rattle.sy_access.specs.declared.access.Need.{Need}
@@ -25,22 +26,22 @@ use Rattle.sy_onecopy.specs.declared.Work.TheVariants.{Node, Access, End}
 use Rattle.sy_onecopy.specs.declared.Stage.{Stage}
 use Rattle.sy_onecopy.specs.declared.Stage.TheVariants as stage
 use Rattle.sy_onecopy.specs.declared.Waits.{Waits}
-use Rattle.sy_onecopy.specs.declared.Waits.TheVariants.{Ready as NoWait, OnEntry}
+use Rattle.sy_onecopy.specs.declared.Waits.TheVariants.{Ready as NoWait, OnEntry, OnNode, OnQueue, OnThread}
 use Rattle.sy_onecopy.specs.Each.{changed_at}
 use Rattle.sy_onecopy.specs.State.{Board}
-use Rattle.sy_onecopy.specs.Before.{is_pending, is_held, is_free}
+use Rattle.sy_onecopy.specs.Before.{is_node, is_pending, is_done, is_held, is_free}
 use Rattle.sy_onecopy.specs.Outcome.{at_start, run_of, values_at, values_of, input, inputs}
 use Rattle.sy_onecopy.specs.Each.{each_from}
 use Rattle.sy_onecopy.specs.Settle.{with_stage, await, reply}
-use Rattle.sy_onecopy.specs.Step.{printed, made_buffer, made_part, mark_ended, with_end, add_entry, end_entry, end_root, end_buffer, opened_host, access_entry, accesses, access_from, closed, close_entry, close_at, close_found, made_context, made_queue, add_node, node_entry, submitted, wait_if, thrown, throw_queue, spawned, apply, error_on, is_root, count_of, is_root_need, are_root_needs, are_different, are_below, has_needs, has_count, live_elements, holds_together}
+use Rattle.sy_onecopy.specs.Step.{node_done, queue_done, is_past, is_node_on, number_of, printed, made_buffer, made_part, mark_ended, with_end, add_entry, end_entry, end_root, end_buffer, opened_host, access_entry, accesses, access_from, closed, close_entry, close_at, close_found, made_context, made_queue, add_node, node_entry, submitted, wait_if, thrown, throw_queue, spawned, apply, error_on, is_root, count_of, is_root_need, are_root_needs, are_different, are_below, has_needs, has_count, live_elements, holds_together}
 use Rattle.sy_settling.specs.Orderly.{IsAt, IsPendingAt, waiter, is_idle, are_there, NeedsWhole, IsOrderly}
-use Rattle.sy_settling.proofs.Lists.{get-changed, get-changed_other, length-changed, get-append, get-set_other, and_left, and_right, and_true, some_is}
+use Rattle.sy_settling.proofs.Lists.{get-changed, get-changed_other, length-changed, get-append, get-set, get-set_other, set_is, and_left, and_right, and_true, some_is}
 use Rattle.sy_settling.proofs.Acts.{Act, Seen, seen, seen-kept, after}
 use Rattle.sy_settling.proofs.Cells.{meet_comm}
 use Rattle.sy_settling.proofs.Free.{free-pending, free-unheld, pending-open, strangers, free-changed}
 use Rattle.sy_settling.proofs.Kept.{need_of, Acts, orderly-after, Ready}
 use Rattle.sy_settling.proofs.Settling.{is_free-front}
-use Rattle.sy_settling.proofs.Asks.{not_pending, closing, closed-is, closing-acts}
+use Rattle.sy_settling.proofs.Asks.{told-length, not_pending, closing, closed-is, closing-acts}
 
 -- ---- buffers and waits that go on
 
@@ -49,9 +50,12 @@ pub record BuffersGo (xs ys : List Buffer) : Type 0 where
   pub longer : length xs ≤ length ys
   pub found : (r : ℕ) (x : Buffer) → slice_get xs r ≡ Some x → (y : Buffer) × (slice_get ys r ≡ Some y) × (y.values ≡ x.values)
 
--- the threads that waited for an entry still do
-pub record WaitsGo (xs ys : List Waits) : Type 0 where
-  pub still : (u : ℕ) → slice_get xs u ≡ Some OnEntry → slice_get ys u ≡ Some OnEntry
+-- the threads that waited for an entry still do, and those that wait for a queue wait for nodes that are there
+pub record WaitsGo (b c : Board) : Type 0 where
+  pub still : (u : ℕ) → slice_get b.waits u ≡ Some OnEntry → slice_get c.waits u ≡ Some OnEntry
+  pub queued : ((u q n : ℕ) → slice_get b.waits u ≡ Some (OnQueue q n) → n ≤ b.nodes) → (u q n : ℕ) → slice_get c.waits u ≡ Some (OnQueue q n) → n ≤ c.nodes
+  pub threads : length b.waits ≤ length c.waits
+  pub nodes : b.nodes ≤ c.nodes
 
 pub buffers-stay : (xs : List Buffer) → BuffersGo xs xs
 buffers-stay xs = record { longer = omega arith; found = λ r x g. (x, g, refl) }
@@ -71,31 +75,51 @@ buffers-ended xs r = record {
   ];
 }
 
-pub waits-stay : (xs : List Waits) → WaitsGo xs xs
-waits-stay xs = record { still = λ u g. g }
-
-pub waits-set : (xs : List Waits) (t : ℕ) (w : Waits) → is_idle (slice_get xs t) ≡ true → WaitsGo xs (set xs t w)
-waits-set xs t w i = record {
-  still = λ u g. elim (cases_eq u t) [
-    | inl e ↦ (let z : false ≡ true = sym (ap is_idle (subst (λ j. slice_get xs j ≡ Some OnEntry) e g)) ∙ i in absurd cc)
-    | inr n ↦ get-set_other xs t u w n ∙ g
-  ];
+pub waits-stay : (b c : Board) → c.waits ≡ b.waits → b.nodes ≤ c.nodes → WaitsGo b c
+waits-stay b c e m = record {
+  still = λ u g. ap (λ l. slice_get l u) e ∙ g;
+  queued = λ o u q n g. (let k : n ≤ b.nodes = o u q n (ap (λ l. slice_get l u) (sym e) ∙ g) in omega arith);
+  threads = omega (arith, ap length e);
+  nodes = m;
 }
 
-waits-append : (xs ys : List Waits) → WaitsGo xs (xs ++ ys)
-waits-append xs ys = record { still = λ u g. get-append xs ys u (slice_get_within xs u OnEntry g) ∙ g }
+-- a wait for no queue
+abbrev pub is_calm : Waits → Bool
+is_calm (OnQueue q n) = false
+is_calm w = true
+
+quiet : (w : Waits) (q n : ℕ) → is_calm w ≡ true → w ≡ OnQueue q n → {A : Type 0} → A
+quiet w q n k p = absurd (let z : false ≡ true = sym (ap is_calm p) ∙ k in cc)
+
+set-still : (xs : List Waits) (t : ℕ) (w : Waits) → is_idle (slice_get xs t) ≡ true → (u : ℕ) → slice_get xs u ≡ Some OnEntry → slice_get (set xs t w) u ≡ Some OnEntry
+set-still xs t w i u g = elim (cases_eq u t) [
+  | inl e ↦ absurd (let z : false ≡ true = sym (ap is_idle (subst (λ j. slice_get xs j ≡ Some OnEntry) e g)) ∙ i in cc)
+  | inr n ↦ get-set_other xs t u w n ∙ g
+]
+
+set-queued : (xs : List Waits) (t : ℕ) (w : Waits) (m : ℕ) → ((q n : ℕ) → w ≡ OnQueue q n → n ≤ m) → ((u q n : ℕ) → slice_get xs u ≡ Some (OnQueue q n) → n ≤ m) → (u q n : ℕ) → slice_get (set xs t w) u ≡ Some (OnQueue q n) → n ≤ m
+set-queued xs t w m k o u q n g = elim (cases_eq u t) [
+  | inl e ↦ k q n (set_is xs t w (OnQueue q n) (subst (λ j. slice_get (set xs t w) j ≡ Some (OnQueue q n)) e g))
+  | inr ne ↦ o u q n (sym (get-set_other xs t u w ne) ∙ g)
+]
+
+waits-set_to : (b c : Board) (t : ℕ) (w : Waits) → c.waits ≡ set b.waits t w → b.nodes ≤ c.nodes → is_idle (slice_get b.waits t) ≡ true → ((q n : ℕ) → w ≡ OnQueue q n → n ≤ c.nodes) → WaitsGo b c
+waits-set_to b c t w e m i k = record {
+  still = λ u g. ap (λ l. slice_get l u) e ∙ set-still b.waits t w i u g;
+  queued = λ o u q n g. set-queued b.waits t w c.nodes k (λ v r j h. (let z : j ≤ b.nodes = o v r j h in omega arith)) u q n (ap (λ l. slice_get l u) (sym e) ∙ g);
+  threads = omega (arith, ap length e, length-set b.waits t w);
+  nodes = m;
+}
+
+pub waits-set : (b c : Board) (t : ℕ) (w : Waits) → c.waits ≡ set b.waits t w → b.nodes ≤ c.nodes → is_idle (slice_get b.waits t) ≡ true → is_calm w ≡ true → WaitsGo b c
+waits-set b c t w e m i k = waits-set_to b c t w e m i (λ q n p. quiet w q n k p)
 
 pub idle_within : (xs : List Waits) (t : ℕ) → is_idle (slice_get xs t) ≡ true → t < length xs
 idle_within xs t i =
     elim (slice_get_cases xs t).1 [
       | inl c ↦ c.1
-      | inr c ↦ (let z : false ≡ true = sym (ap is_idle c.1) ∙ i in absurd cc)
+      | inr c ↦ absurd (let z : false ≡ true = sym (ap is_idle c.1) ∙ i in cc)
     ]
-
-pub get-set_same : (xs : List Waits) (t : ℕ) (w : Waits) → t < length xs → slice_get (set xs t w) t ≡ Some w
-get-set_same [] t w lt = absurd (omega arith)
-get-set_same (x ∷ xs) zero w lt = refl
-get-set_same (x ∷ xs) (suc t) w lt = get-set_same xs t w (omega arith)
 
 -- ---- what an entry reads
 
@@ -113,6 +137,9 @@ below_more n i j le h = grind (arith, nat_tests)
 
 test_lt : (m n : ℕ) → nat_lt m n ≡ true → m < n
 test_lt m n h = grind (arith, nat_tests)
+
+test_not : (m n : ℕ) → n ≤ m → nat_lt m n ≡ false
+test_not m n h = grind (arith, nat_tests)
 
 lt_test : (m n : ℕ) → m < n → nat_lt m n ≡ true
 lt_test m n h = grind (arith, nat_tests)
@@ -145,6 +172,90 @@ whole-go xs ys r needs g n =
     let f = g.found r n.buffer n.found in
     record { buffer = f.0; found = f.1; all = n.all ∙ ap (λ l. need_of r (length l) ∷ []) (sym f.2) }
 
+-- ---- what is over stays over
+
+-- what a thread may wait for, where it has come, has come for good
+pub record Lasts (b c : Board) : Type 0 where
+  pub nodes : b.nodes ≤ c.nodes
+  pub threads : length b.waits ≤ length c.waits
+  pub node : (n : ℕ) → node_done b.entries n ≡ true → node_done c.entries n ≡ true
+  pub queue : (q n : ℕ) → n ≤ b.nodes → queue_done b.entries q n ≡ true → queue_done c.entries q n ≡ true
+
+pub lasts-trans : (b c d : Board) → Lasts b c → Lasts c d → Lasts b d
+lasts-trans b c d f g = record {
+  nodes = (let x = f.nodes in let y = g.nodes in omega arith);
+  threads = (let x = f.threads in let y = g.threads in omega arith);
+  node = λ n h. g.node n (f.node n h);
+  queue = λ q n m h. g.queue q n (let x = f.nodes in omega arith) (f.queue q n m h);
+}
+
+pub lasts-same : (b c : Board) → c.entries ≡ b.entries → b.nodes ≤ c.nodes → length b.waits ≤ length c.waits → Lasts b c
+lasts-same b c e m w = record {
+  nodes = m;
+  threads = w;
+  node = λ n h. ap (λ l. node_done l n) e ∙ h;
+  queue = λ q n k h. ap (λ l. queue_done l q n) e ∙ h;
+}
+
+node-added : (xs : List Entry) (x : Entry) (n : ℕ) → node_done xs n ≡ true → node_done (xs ++ x ∷ []) n ≡ true
+unfolding node_done
+node-added xs x n h =
+    let p = λ (e : Entry). is_node e.work n && is_done e.stage in
+    list_any-append p xs (x ∷ []) ∙ ap (λ v. v || list_any p (x ∷ [])) h
+
+queue-added : (xs : List Entry) (x : Entry) (q n : ℕ) → is_past q n x ≡ true → queue_done xs q n ≡ true → queue_done (xs ++ x ∷ []) q n ≡ true
+unfolding queue_done
+queue-added xs x q n k h = list_all-append (is_past q n) xs (x ∷ []) ∙ and_true (list_all (is_past q n) xs) (is_past q n x && true) h (and_true (is_past q n x) true k refl)
+
+or_second : (v w : Bool) → w ≡ true → (v || w) ≡ true
+or_second true w h = refl
+or_second false w h = h
+
+or_rest : (v w : Bool) → v ≡ false → (v || w) ≡ true → w ≡ true
+or_rest v w e h = ap (λ u. u || w) (sym e) ∙ h
+
+or_start : (v w : Bool) → w ≡ false → (v || w) ≡ true → v ≡ true
+or_start true w e h = refl
+or_start false w e h = sym e ∙ h
+
+no_second : (v w : Bool) → w ≡ false → (v && w) ≡ false
+no_second true w h = h
+no_second false w h = refl
+
+node-changed : (s : Stage) (k : ℕ) (xs : List Entry) (e : Entry) (n : ℕ) → IsAt xs k e → is_done e.stage ≡ false → node_done xs n ≡ true → node_done (changed_at (with_stage s) k xs) n ≡ true
+unfolding node_done
+node-changed s k [] e n g d h = h
+node-changed s zero (x ∷ xs) e n g d h =
+    let p = λ (y : Entry). is_node y.work n && is_done y.stage in
+    let undone : is_done x.stage ≡ false = ap (λ (y : Entry). is_done y.stage) (some_is g) ∙ d in
+    or_second (p (with_stage s x)) (list_any p xs) (or_rest (p x) (list_any p xs) (no_second (is_node x.work n) (is_done x.stage) undone) h)
+node-changed s (suc k) (x ∷ xs) e n g d h =
+    let p = λ (y : Entry). is_node y.work n && is_done y.stage in
+    elim (cases_Bool (p x)) [
+      | inl v ↦ ap (λ u. u || list_any p (changed_at (with_stage s) k xs)) v
+      | inr v ↦ or_second (p x) (list_any p (changed_at (with_stage s) k xs)) (node-changed s k xs e n g d (or_rest (p x) (list_any p xs) v h))
+    ]
+
+queue-changed : (s : Stage) (k : ℕ) (xs : List Entry) (e : Entry) (q n : ℕ) → IsAt xs k e → is_done e.stage ≡ false → queue_done xs q n ≡ true → queue_done (changed_at (with_stage s) k xs) q n ≡ true
+unfolding queue_done
+queue-changed s k [] e q n g d h = h
+queue-changed s zero (x ∷ xs) e q n g d h =
+    let undone : is_done x.stage ≡ false = ap (λ (y : Entry). is_done y.stage) (some_is g) ∙ d in
+    let off = not (is_node_on q x.work && nat_lt (number_of x.work) n) in
+    let is : off ≡ true = or_start off (is_done x.stage) undone (and_left (is_past q n x) (list_all (is_past q n) xs) h) in
+    and_true (is_past q n (with_stage s x)) (list_all (is_past q n) xs) (ap (λ u. u || is_done s) is) (and_right (is_past q n x) (list_all (is_past q n) xs) h)
+queue-changed s (suc k) (x ∷ xs) e q n g d h =
+    and_true (is_past q n x) (list_all (is_past q n) (changed_at (with_stage s) k xs)) (and_left (is_past q n x) (list_all (is_past q n) xs) h)
+      (queue-changed s k xs e q n g d (and_right (is_past q n x) (list_all (is_past q n) xs) h))
+
+pub lasts-after : (b : Board) (a : Act) (k : ℕ) (e : Entry) → IsAt b.entries k e → is_done e.stage ≡ false → Lasts b (after a k b)
+lasts-after b a k e g d = record {
+  nodes = omega arith;
+  threads = omega (arith, told-length a.due b.waits);
+  node = λ n h. node-changed a.stage k b.entries e n g d h;
+  queue = λ q n m h. queue-changed a.stage k b.entries e q n g d h;
+}
+
 -- ---- one board after another
 
 -- each entry that may take effect still may, and reads the same, and the board is in order
@@ -152,6 +263,7 @@ pub record Follows (b c : Board) : Type 0 where
   pub sees : (k : ℕ) (e : Entry) → Ready b k e → seen c.buffers e.needs e.work ≡ seen b.buffers e.needs e.work
   pub stays : (k : ℕ) (e : Entry) → Ready b k e → IsAt c.entries k e × (is_free c.entries k e ≡ true)
   pub orderly : IsOrderly b → IsOrderly c
+  pub lasts : Lasts b c
 
 pub ready-go : (b c : Board) (k : ℕ) (e : Entry) → Follows b c → Ready b k e → Ready c k e
 ready-go b c k e f r = record { orderly = f.orderly r.orderly; at = (f.stays k e r).0; free = (f.stays k e r).1 }
@@ -161,6 +273,7 @@ follows-trans b c d f g = record {
   sees = λ k e r. g.sees k e (ready-go b c k e f r) ∙ f.sees k e r;
   stays = λ k e r. g.stays k e (ready-go b c k e f r);
   orderly = λ o. g.orderly (f.orderly o);
+  lasts = lasts-trans b c d f.lasts g.lasts;
 }
 
 sees-go : (b c : Board) (k : ℕ) (e : Entry) → BuffersGo b.buffers c.buffers → Ready b k e → seen c.buffers e.needs e.work ≡ seen b.buffers e.needs e.work
@@ -168,7 +281,7 @@ sees-go b c k e g r =
     let p : IsPendingAt b.entries k e = (r.at, free-pending b.entries k e r.free) in
     seen-go b.buffers c.buffers e.needs e.work g (r.orderly.there k e p) (λ t i w. r.orderly.whole k t i e p w)
 
-pub orderly-same : (b c : Board) → c.entries ≡ b.entries → BuffersGo b.buffers c.buffers → WaitsGo b.waits c.waits → IsOrderly b → IsOrderly c
+pub orderly-same : (b c : Board) → c.entries ≡ b.entries → BuffersGo b.buffers c.buffers → WaitsGo b c → IsOrderly b → IsOrderly c
 orderly-same b c h g w o =
     let was : (k : ℕ) (x : Entry) → IsPendingAt c.entries k x → IsPendingAt b.entries k x = λ k x p. (ap (λ l. slice_get l k) (sym h) ∙ p.0, p.1) in
     record {
@@ -177,17 +290,19 @@ orderly-same b c h g w o =
       there = λ k x p. there-go (length b.buffers) (length c.buffers) x.needs g.longer (o.there k x (was k x p));
       whole = λ k t r x p q. whole-go b.buffers c.buffers r x.needs g (o.whole k t r x (was k x p) q);
       open_first = λ k x p q. ap (λ l. is_held (take k l) x) h ∙ o.open_first k x (ap (λ l. slice_get l k) (sym h) ∙ p) q;
+      queued = w.queued o.queued;
     }
 
-pub follows-same : (b c : Board) → c.entries ≡ b.entries → BuffersGo b.buffers c.buffers → WaitsGo b.waits c.waits → Follows b c
+pub follows-same : (b c : Board) → c.entries ≡ b.entries → BuffersGo b.buffers c.buffers → WaitsGo b c → Follows b c
 follows-same b c h g w = record {
   sees = λ k e r. sees-go b c k e g r;
   stays = λ k e r. (ap (λ l. slice_get l k) h ∙ r.at, ap (λ l. is_free l k e) h ∙ r.free);
   orderly = orderly-same b c h g w;
+  lasts = lasts-same b c h w.nodes w.threads;
 }
 
 follows-itself : (b : Board) → Follows b b
-follows-itself b = follows-same b b refl (buffers-stay b.buffers) (waits-stay b.waits)
+follows-itself b = follows-same b b refl (buffers-stay b.buffers) (waits-stay b _ refl (omega arith))
 
 pub follows-if : (b y z : Board) (v : Bool) → (v ≡ true → Follows b y) → Follows b z → Follows b (if v then y else z)
 follows-if b y z true f g = f refl
@@ -203,6 +318,7 @@ record Newcomer (b c : Board) (e : Entry) : Type 0 where
   idle : (t : ℕ) → waiter e.work ≡ Some t → is_idle (slice_get b.waits t) ≡ true
   there : are_there (length c.buffers) e.needs ≡ true
   whole : (t r : ℕ) → e.work ≡ End t r → NeedsWhole c.buffers r e.needs
+  later : (q m : ℕ) → m ≤ b.nodes → is_past q m e ≡ true
 
 at-append : (xs : List Entry) (e : Entry) (k : ℕ) (x : Entry) → IsAt (xs ++ e ∷ []) k x → ((k < length xs) × IsAt xs k x) ⊎ ((k ≡ length xs) × (x ≡ e))
 at-append [] e zero x g = inr (refl, some_is (sym g))
@@ -213,7 +329,7 @@ at-append (y ∷ ys) e (suc k) x g = elim (at-append ys e k x g) [
   | inr p ↦ inr (ap suc p.0, p.1)
 ]
 
-orderly-added : (b c : Board) (e : Entry) → Newcomer b c e → BuffersGo b.buffers c.buffers → WaitsGo b.waits c.waits → IsOrderly b → IsOrderly c
+orderly-added : (b c : Board) (e : Entry) → Newcomer b c e → BuffersGo b.buffers c.buffers → WaitsGo b c → IsOrderly b → IsOrderly c
 orderly-added b c e n g w o =
     let place : (k : ℕ) (x : Entry) → IsAt c.entries k x → ((k < length b.entries) × IsAt b.entries k x) ⊎ ((k ≡ length b.entries) × (x ≡ e)) = λ k x p. at-append b.entries e k x (ap (λ l. slice_get l k) (sym n.added) ∙ p) in
     record {
@@ -243,9 +359,10 @@ orderly-added b c e n g w o =
         | inl f ↦ ap (λ l. is_held (take k l) x) n.added ∙ ap (λ l. is_held l x) (take-append-le k b.entries (e ∷ []) (let lt = f.0 in omega arith)) ∙ o.open_first k x f.1 q
         | inr f ↦ (let z : stage.Pending ≡ stage.Granted = sym n.pends ∙ ap (λ y. y.stage) (sym f.1) ∙ q in absurd cc)
       ];
+      queued = w.queued o.queued;
     }
 
-follows-added : (b c : Board) (e : Entry) → Newcomer b c e → BuffersGo b.buffers c.buffers → WaitsGo b.waits c.waits → Follows b c
+follows-added : (b c : Board) (e : Entry) → Newcomer b c e → BuffersGo b.buffers c.buffers → WaitsGo b c → Follows b c
 follows-added b c e n g w = record {
   sees = λ k x r. sees-go b c k x g r;
   stays = λ k x r.
@@ -254,6 +371,12 @@ follows-added b c e n g w = record {
         is_free-front c.entries b.entries k x (ap (take k) n.added ∙ take-append-le k b.entries (e ∷ []) (omega arith)) ∙ r.free,
       ));
   orderly = orderly-added b c e n g w;
+  lasts = record {
+    nodes = w.nodes;
+    threads = w.threads;
+    node = λ m h. ap (λ l. node_done l m) n.added ∙ node-added b.entries e m h;
+    queue = λ q m k h. ap (λ l. queue_done l q m) n.added ∙ queue-added b.entries e q m (n.later q m k) h;
+  };
 }
 
 -- ---- an open host access is closed
@@ -276,6 +399,7 @@ follows-after b a j x st c g = record {
     free-changed a.stage j k b.entries x e g (c r.orderly).undone r.free,
   );
   orderly = λ o. orderly-after b a j x o (c o);
+  lasts = lasts-after b a j x g (ap is_done st);
 }
 
 -- ---- each ask
@@ -284,27 +408,30 @@ printed-follows : (b : Board) (t : ℕ) (bytes : List ℕ) → is_idle (slice_ge
 unfolding printed
 printed-follows b t bytes i =
     follows-if b _ _ (nat_le (length b.output + length bytes) (2 ^ 24))
-    (λ h. follows-same b _ refl (buffers-stay b.buffers) (waits-set b.waits t _ i))
-    (follows-same b _ refl (buffers-stay b.buffers) (waits-stay b.waits))
+    (λ h. follows-same b _ refl (buffers-stay b.buffers) (waits-set b _ t _ refl (omega arith) i refl))
+    (follows-same b _ refl (buffers-stay b.buffers) (waits-stay b _ refl (omega arith)))
 
 made_buffer-follows : (b : Board) (t : ℕ) (m : NewBuffer) → is_idle (slice_get b.waits t) ≡ true → Follows b (made_buffer b t m)
 unfolding made_buffer
 made_buffer-follows b t m i =
     follows-if b _ b (has_count (product m.range) m.init)
     (λ h. follows-if b _ _ (nat_le (live_elements b.buffers + product m.range) (2 ^ 22))
-    (λ k. follows-same b _ refl (buffers-append b.buffers _) (waits-set b.waits t _ i))
-    (follows-same b _ refl (buffers-stay b.buffers) (waits-set b.waits t _ i)))
+    (λ k. follows-same b _ refl (buffers-append b.buffers _) (waits-set b _ t _ refl (omega arith) i refl))
+    (follows-same b _ refl (buffers-stay b.buffers) (waits-set b _ t _ refl (omega arith) i refl)))
     (follows-itself b)
 
 made_part-follows : (b : Board) (t r base n : ℕ) → is_idle (slice_get b.waits t) ≡ true → Follows b (made_part b t r base n)
 unfolding made_part
 made_part-follows b t r base n i =
     follows-if b _ b (is_root (slice_get b.buffers r) && nat_le (base + n) (count_of (slice_get b.buffers r)))
-    (λ h. follows-same b _ refl (buffers-append b.buffers _) (waits-set b.waits t _ i))
+    (λ h. follows-same b _ refl (buffers-append b.buffers _) (waits-set b _ t _ refl (omega arith) i refl))
     (follows-itself b)
 
 same_thread : {t u : ℕ} → Some t ≡ Some u → t ≡ u
 same_thread p = cc
+
+queue_number : {q r m n : ℕ} → OnQueue q m ≡ OnQueue r n → m ≡ n
+queue_number p = cc
 
 same_buffer : {t u r q : ℕ} → End t r ≡ End u q → r ≡ q
 same_buffer p = cc
@@ -320,19 +447,20 @@ end_vector-follows b t r x g i =
     let n : Newcomer b c (end_entry t r x) = record {
       added = refl;
       pends = refl;
-      awaits = λ u p. subst (λ j. slice_get c.waits j ≡ Some OnEntry) (same_thread p) (get-set_same b.waits t OnEntry (idle_within b.waits t i));
+      awaits = λ u p. subst (λ j. slice_get c.waits j ≡ Some OnEntry) (same_thread p) (get-set b.waits t OnEntry (idle_within b.waits t i));
       idle = λ u p. subst (λ j. is_idle (slice_get b.waits j) ≡ true) (same_thread p) i;
       there = one_there (length c.buffers) r _ refl (subst (λ j. r < j) (sym (length-changed with_end r b.buffers)) lt);
+      later = λ q m k. refl;
       whole = λ u q p. subst (λ j. NeedsWhole c.buffers j (end_entry t r x).needs) (same_buffer p)
           (record { buffer = with_end x; found = get-changed with_end r b.buffers ∙ ap (option_map with_end) g; all = refl });
     } in
-    follows-added b c (end_entry t r x) n (buffers-ended b.buffers r) (waits-set b.waits t OnEntry i)
+    follows-added b c (end_entry t r x) n (buffers-ended b.buffers r) (waits-set b c t OnEntry refl (omega arith) i refl)
 
 end_root-follows : (b : Board) (t r : ℕ) (x : Buffer) (o : Origin) → slice_get b.buffers r ≡ Some x → is_idle (slice_get b.waits t) ≡ true → Follows b (end_root b t r x o)
 unfolding end_root
 end_root-follows b t r x Vector g i = end_vector-follows b t r x g i
-end_root-follows b t r x Range g i = follows-same b _ refl (buffers-ended b.buffers r) (waits-set b.waits t _ i)
-end_root-follows b t r x Part g i = follows-same b _ refl (buffers-ended b.buffers r) (waits-set b.waits t _ i)
+end_root-follows b t r x Range g i = follows-same b _ refl (buffers-ended b.buffers r) (waits-set b _ t _ refl (omega arith) i refl)
+end_root-follows b t r x Part g i = follows-same b _ refl (buffers-ended b.buffers r) (waits-set b _ t _ refl (omega arith) i refl)
 
 end_buffer-follows : (b : Board) (t r : ℕ) (o : Option Buffer) → slice_get b.buffers r ≡ o → is_idle (slice_get b.waits t) ≡ true → Follows b (end_buffer b t r o)
 unfolding end_buffer
@@ -356,12 +484,13 @@ opened-follows b t n i lt j =
     let new : Newcomer b c (access_entry t j n) = record {
       added = refl;
       pends = refl;
-      awaits = λ u p. subst (λ k. slice_get c.waits k ≡ Some OnEntry) (same_thread p) (get-set_same b.waits t OnEntry (idle_within b.waits t i));
+      awaits = λ u p. subst (λ k. slice_get c.waits k ≡ Some OnEntry) (same_thread p) (get-set b.waits t OnEntry (idle_within b.waits t i));
       idle = λ u p. subst (λ k. is_idle (slice_get b.waits k) ≡ true) (same_thread p) i;
       there = one_there (length b.buffers) n.buffer n refl lt;
       whole = λ u q p. absurd cc;
+      later = λ q m k. refl;
     } in
-    follows-added b c (access_entry t j n) new (buffers-stay b.buffers) (waits-set b.waits t OnEntry i)
+    follows-added b c (access_entry t j n) new (buffers-stay b.buffers) (waits-set b c t OnEntry refl (omega arith) i refl)
 
 opened_host-follows : (b : Board) (t : ℕ) (n : Need) → is_idle (slice_get b.waits t) ≡ true → Follows b (opened_host b t n)
 unfolding opened_host
@@ -374,7 +503,7 @@ closed-follows b t j values x n ns i g st hn =
     let c = after a j b in
     follows-if b _ b (length values == n.to - n.from)
     (λ h. subst (λ z. Follows b (reply z t Answered)) (sym (closed-is b n values j))
-    (follows-trans b c _ (follows-after b a j x st (λ o. closing-acts b j x n ns values o g st hn) g) (follows-same c _ refl (buffers-stay c.buffers) (waits-set c.waits t _ i))))
+    (follows-trans b c _ (follows-after b a j x st (λ o. closing-acts b j x n ns values o g st hn) g) (follows-same c _ refl (buffers-stay c.buffers) (waits-set c _ t _ refl (omega arith) i refl))))
     (follows-itself b)
 
 close_entry-follows : (b : Board) (t j : ℕ) (values : List ℤ) (x : Entry) (s : Stage) (ns : List Need) → is_idle (slice_get b.waits t) ≡ true → IsAt b.entries j x → x.stage ≡ s → x.needs ≡ ns → Follows b (close_entry b t values j s ns)
@@ -399,13 +528,13 @@ made_context-follows : (b : Board) (t : ℕ) → is_idle (slice_get b.waits t) �
 unfolding made_context
 made_context-follows b t i =
     follows-if b _ _ (nat_lt b.places 17)
-    (λ h. follows-same b _ refl (buffers-stay b.buffers) (waits-set b.waits t _ i))
-    (follows-same b _ refl (buffers-stay b.buffers) (waits-set b.waits t _ i))
+    (λ h. follows-same b _ refl (buffers-stay b.buffers) (waits-set b _ t _ refl (omega arith) i refl))
+    (follows-same b _ refl (buffers-stay b.buffers) (waits-set b _ t _ refl (omega arith) i refl))
 
 made_queue-follows : (b : Board) (t : ℕ) (m : NewQueue) → is_idle (slice_get b.waits t) ≡ true → Follows b (made_queue b t m)
 unfolding made_queue
 made_queue-follows b t m i =
-    follows-if b _ b (nat_lt 0 m.context && nat_lt m.context b.places) (λ h. follows-same b _ refl (buffers-stay b.buffers) (waits-set b.waits t _ i)) (follows-itself b)
+    follows-if b _ b (nat_lt 0 m.context && nat_lt m.context b.places) (λ h. follows-same b _ refl (buffers-stay b.buffers) (waits-set b _ t _ refl (omega arith) i refl)) (follows-itself b)
 
 roots_there : (xs : List Buffer) (needs : List Need) → list_all (is_root_need xs) needs ≡ true → are_there (length xs) needs ≡ true
 unfolding are_there
@@ -422,6 +551,9 @@ holds_there b m h =
     (and_left (list_all (is_root_need b.buffers) m.needs) (are_different m.needs)
     (and_left (list_all (is_root_need b.buffers) m.needs && are_different m.needs) (are_below b.nodes m.after && has_needs m.needs m.command) h))
 
+not_below : (v : Bool) (n k : ℕ) → k ≤ n → (not (v && nat_lt n k) || false) ≡ true
+not_below v n k le = ap (λ u. not u || false) (no_second v (nat_lt n k) (test_not n k le))
+
 added-follows : (b : Board) (t : ℕ) (m : Submission) (x : Queue) → is_idle (slice_get b.waits t) ≡ true → are_there (length b.buffers) m.needs ≡ true → Follows b (add_node b t (node_entry b.nodes m x))
 added-follows b t m x i h =
     let c = add_node b t (node_entry b.nodes m x) in
@@ -432,37 +564,50 @@ added-follows b t m x i h =
       idle = λ u p. absurd cc;
       there = h;
       whole = λ u q p. absurd cc;
+      later = λ q k l. not_below (m.queue == q) b.nodes k l;
     } in
-    follows-added b c (node_entry b.nodes m x) new (buffers-stay b.buffers) (waits-set b.waits t _ i)
+    follows-added b c (node_entry b.nodes m x) new (buffers-stay b.buffers) (waits-set b _ t _ refl (omega arith) i refl)
 
 submitted-follows : (b : Board) (t : ℕ) (m : Submission) (o : Option Queue) → is_idle (slice_get b.waits t) ≡ true → Follows b (submitted b t m o)
 unfolding submitted
 submitted-follows b t m None i = follows-itself b
 submitted-follows b t m (Some x) i = follows-if b _ b (holds_together b m) (λ h. added-follows b t m x i (holds_there b m h)) (follows-itself b)
 
-wait_if-follows : (v : Bool) (b : Board) (t : ℕ) (w : Waits) → is_idle (slice_get b.waits t) ≡ true → Follows b (wait_if v b t w)
-wait_if-follows true b t w i = follows-same b _ refl (buffers-stay b.buffers) (waits-set b.waits t w i)
-wait_if-follows false b t w i = follows-itself b
+wait_if-follows : (v : Bool) (b : Board) (t : ℕ) (w : Waits) → ((q n : ℕ) → w ≡ OnQueue q n → n ≤ b.nodes) → is_idle (slice_get b.waits t) ≡ true → Follows b (wait_if v b t w)
+wait_if-follows true b t w k i = follows-same b _ refl (buffers-stay b.buffers) (waits-set_to b _ t w refl (omega arith) i k)
+wait_if-follows false b t w k i = follows-itself b
 
 thrown-follows : (b : Board) (t : ℕ) (o : Option KernelError) → is_idle (slice_get b.waits t) ≡ true → Follows b (thrown b t o)
-thrown-follows b t None i = follows-same b _ refl (buffers-stay b.buffers) (waits-set b.waits t _ i)
-thrown-follows b t (Some f) i = follows-same b _ refl (buffers-stay b.buffers) (waits-stay b.waits)
+thrown-follows b t None i = follows-same b _ refl (buffers-stay b.buffers) (waits-set b _ t _ refl (omega arith) i refl)
+thrown-follows b t (Some f) i = follows-same b _ refl (buffers-stay b.buffers) (waits-stay b _ refl (omega arith))
 
 throw_queue-follows : (b : Board) (t q : ℕ) → is_idle (slice_get b.waits t) ≡ true → Follows b (throw_queue b t q)
 unfolding throw_queue
 throw_queue-follows b t q i = follows-if b _ b (nat_lt q (length b.queues)) (λ h. thrown-follows b t (error_on q b.entries) i) (follows-itself b)
 
-waits-grown : (xs : List Waits) (t : ℕ) (w : Waits) → is_idle (slice_get xs t) ≡ true → WaitsGo xs (set (xs ++ NoWait ∷ []) t w)
-waits-grown xs t w i =
-    let j : is_idle (slice_get (xs ++ NoWait ∷ []) t) ≡ true = ap is_idle (get-append xs (NoWait ∷ []) t (idle_within xs t i)) ∙ i in
-    record { still = λ u g. (waits-set (xs ++ NoWait ∷ []) t w j).still u ((waits-append xs (NoWait ∷ [])).still u g) }
+grown_queued : (xs : List Waits) (m : ℕ) → ((u q n : ℕ) → slice_get xs u ≡ Some (OnQueue q n) → n ≤ m) → (u q n : ℕ) → slice_get (xs ++ NoWait ∷ []) u ≡ Some (OnQueue q n) → n ≤ m
+grown_queued [] m o zero q n g = absurd cc
+grown_queued [] m o (suc u) q n g = absurd cc
+grown_queued (x ∷ xs) m o zero q n g = o zero q n g
+grown_queued (x ∷ xs) m o (suc u) q n g = grown_queued xs m (λ v r j h. o (suc v) r j h) u q n g
+
+waits-grown : (b c : Board) (t : ℕ) (w : Waits) → c.waits ≡ set (b.waits ++ NoWait ∷ []) t w → b.nodes ≤ c.nodes → is_idle (slice_get b.waits t) ≡ true → is_calm w ≡ true → WaitsGo b c
+waits-grown b c t w e m i k =
+    let ws = b.waits ++ NoWait ∷ [] in
+    let j : is_idle (slice_get ws t) ≡ true = ap is_idle (get-append b.waits (NoWait ∷ []) t (idle_within b.waits t i)) ∙ i in
+    record {
+      still = λ u g. ap (λ l. slice_get l u) e ∙ set-still ws t w j u (get-append b.waits (NoWait ∷ []) u (slice_get_within b.waits u OnEntry g) ∙ g);
+      queued = λ o u q n g. set-queued ws t w c.nodes (λ r l p. quiet w r l k p) (grown_queued b.waits c.nodes (λ v r l h. (let z : l ≤ b.nodes = o v r l h in omega arith))) u q n (ap (λ l. slice_get l u) (sym e) ∙ g);
+      threads = omega (arith, ap length e, length-set ws t w, length-append b.waits (NoWait ∷ []));
+      nodes = m;
+    }
 
 spawned-follows : (b : Board) (t : ℕ) → is_idle (slice_get b.waits t) ≡ true → Follows b (spawned b t)
 unfolding spawned
 spawned-follows b t i =
     follows-if b _ _ (nat_lt (length b.waits) 64)
-    (λ h. follows-same b _ refl (buffers-stay b.buffers) (waits-grown b.waits t _ i))
-    (follows-same b _ refl (buffers-stay b.buffers) (waits-stay b.waits))
+    (λ h. follows-same b _ refl (buffers-stay b.buffers) (waits-grown b _ t _ refl (omega arith) i refl))
+    (follows-same b _ refl (buffers-stay b.buffers) (waits-stay b _ refl (omega arith)))
 
 pub apply-follows : (b : Board) (t : ℕ) (q : Ask) → is_idle (slice_get b.waits t) ≡ true → Follows b (apply b t q)
 unfolding apply
@@ -475,12 +620,12 @@ apply-follows b t (CloseHost k values) i = close_found-follows b t values (acces
 apply-follows b t (MakeContext device) i = made_context-follows b t i
 apply-follows b t (MakeQueue m) i = made_queue-follows b t m i
 apply-follows b t (Submit m) i = submitted-follows b t m (slice_get b.queues m.queue) i
-apply-follows b t (WaitNode n) i = wait_if-follows _ b t _ i
-apply-follows b t (WaitQueue q) i = wait_if-follows _ b t _ i
+apply-follows b t (WaitNode n) i = wait_if-follows _ b t (OnNode n) (λ q m p. absurd cc) i
+apply-follows b t (WaitQueue q) i = wait_if-follows _ b t (OnQueue q b.nodes) (λ r m p. (let e : b.nodes ≡ m = queue_number p in omega arith)) i
 apply-follows b t (ThrowQueue q) i = throw_queue-follows b t q i
 apply-follows b t (Spawn body captures) i = spawned-follows b t i
-apply-follows b t (Join u) i = wait_if-follows _ b t _ i
-apply-follows b t (Finish v) i = follows-same b _ refl (buffers-stay b.buffers) (waits-set b.waits t _ i)
-apply-follows b t (Halt x) i = follows-same b _ refl (buffers-stay b.buffers) (waits-stay b.waits)
+apply-follows b t (Join u) i = wait_if-follows _ b t (OnThread u) (λ q m p. absurd cc) i
+apply-follows b t (Finish v) i = follows-same b _ refl (buffers-stay b.buffers) (waits-set b _ t _ refl (omega arith) i refl)
+apply-follows b t (Halt x) i = follows-same b _ refl (buffers-stay b.buffers) (waits-stay b _ refl (omega arith))
 apply-follows b t (Barrier place line) i = follows-itself b
 apply-follows b t (Collect place line call) i = follows-itself b

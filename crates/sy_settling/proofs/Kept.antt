@@ -19,7 +19,7 @@ use Rattle.sy_onecopy.specs.Laws.{needs_meet}
 use Rattle.sy_settling.specs.Orderly.{IsAt, IsPendingAt, waiter, are_there, NeedsWhole, IsOrderly}
 use Rattle.sy_settling.proofs.Lists.{get-changed, get-changed_other, changed-swap, length-each, take-changed_past, some_is}
 use Rattle.sy_settling.proofs.Cells.{Cells, buffer_by, mapped, get-mapped, apart-swap, meet_comm}
-use Rattle.sy_settling.proofs.Acts.{Act, ActOf, act-of, act, seen, seen-kept, told-swap, told-other, after, build-same, effect-is}
+use Rattle.sy_settling.proofs.Acts.{Act, ActOf, act-of, act, seen, seen-kept, told-swap, told-other, told-queued, after, build-same, effect-is}
 use Rattle.sy_settling.proofs.Free.{free-pending, free-unheld, pending-open, strangers, unheld-changed, held-restaged, staged-at}
 
 -- ---- pending entries while one comes to a stage
@@ -87,6 +87,7 @@ orderly-after b a k e o c =
       there = λ j x p. ap (λ n. are_there n x.needs) (length-each (buffer_by a.cells) 0 b.buffers) ∙ o.there j x (was-pending a.stage k j b.entries x m p);
       whole = λ j t r x p w. whole-mapped a.cells b.buffers r x.needs (o.whole j t r x (was-pending a.stage k j b.entries x m p) w);
       open_first = λ j x h st. open_after b a k j e x o c h st;
+      queued = λ t q n g. o.queued t q n (told-queued a.due b.waits t q n c.of.answers g);
     }
 
 -- two entries that may act don't meet

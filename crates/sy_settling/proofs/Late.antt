@@ -8,11 +8,12 @@ use Rattle.sy_work.specs.declared.asks.Ask.{Ask}
 use Rattle.sy_work.specs.declared.asks.Ask.TheVariants.{ThrowQueue}
 use Rattle.sy_onecopy.specs.declared.Entry.{Entry}
 use Rattle.sy_onecopy.specs.declared.Stage.{Stage}
+use Rattle.sy_onecopy.specs.declared.Waits.{Waits}
 use Rattle.sy_onecopy.specs.declared.Waits.TheVariants.{Never}
 use Rattle.sy_onecopy.specs.Each.{changed_at}
 use Rattle.sy_onecopy.specs.State.{Board}
 use Rattle.sy_onecopy.specs.Before.{is_done, is_free}
-use Rattle.sy_onecopy.specs.Settle.{with_stage, effect, settle_entry, settle_one, settle_upto, settle}
+use Rattle.sy_onecopy.specs.Settle.{await, with_stage, effect, settle_entry, settle_one, settle_upto, settle}
 use Rattle.sy_onecopy.specs.Step.{apply, begun, is_node_on}
 use Rattle.sy_onecopy.specs.Sequence.{is_clear, has_open_node_on}
 use Rattle.sy_settling.specs.Orderly.{IsAt, is_idle, IsOrderly, MayAsk}
@@ -89,31 +90,37 @@ asks-pass out t q = record {
 pub ask-settle : (out : OutcomeOf) (b : Board) (t : ℕ) (q : Ask) → IsOrderly b → MayAsk b t q → settle out (apply (settle out b) t q) ≡ settle out (apply b t q)
 ask-settle out b t q o m = passes-settle out (λ c. MayAsk c t q) (λ c. apply c t q) (asks-pass out t q) b o m
 
--- ---- the count of a step
+-- ---- a thread that waits for something else
 
-begun-effect : (out : OutcomeOf) (b : Board) (k : ℕ) (e : Entry) (t : ℕ) → is_idle (slice_get b.waits t) ≡ true → Ready b k e → effect out (begun b t) k e e.work ≡ begun (effect out b k e e.work) t
-begun-effect out b k e t i r =
+abbrev pub marked : (ℕ → ℕ) → Board → ℕ → Waits → Board
+marked f b t w = await (record b { steps = f b.steps }) t w
+
+marked-effect : (out : OutcomeOf) (f : ℕ → ℕ) (b : Board) (k : ℕ) (e : Entry) (t : ℕ) (w : Waits) → is_idle (slice_get b.waits t) ≡ true → Ready b k e → effect out (marked f b t w) k e e.work ≡ marked f (effect out b k e e.work) t w
+marked-effect out f b k e t w i r =
     let a = act_at out b e in
-    effect-act out (begun b t) k e
-    ∙ ap (λ z. after z k (begun b t)) (act_at-seen out b (begun b t) e refl)
-    ∙ await-after (record b { steps = suc b.steps }) a k t Never (untold b a k e t (scene out b k e t i r))
-    ∙ ap (λ z. begun z t) (sym (effect-act out b k e))
+    effect-act out (marked f b t w) k e
+    ∙ ap (λ z. after z k (marked f b t w)) (act_at-seen out b (marked f b t w) e refl)
+    ∙ await-after (record b { steps = f b.steps }) a k t w (untold b a k e t (scene out b k e t i r))
+    ∙ ap (λ z. marked f z t w) (sym (effect-act out b k e))
 
-begun_found : (out : OutcomeOf) (b : Board) (n t : ℕ) (v : Option Entry) → slice_get b.entries n ≡ v → IsOrderly b → is_idle (slice_get b.waits t) ≡ true → settle_entry out (begun b t) n v ≡ begun (settle_entry out b n v) t
-begun_found out b n t None g o i = entry-none out (begun b t) n ∙ ap (λ z. begun z t) (sym (entry-none out b n))
-begun_found out b n t (Some x) g o i = elim (cases_Bool (is_free b.entries n x)) [
-  | inl f ↦
-      entry-free out (begun b t) n x true f ∙ begun-effect out b n x t i (record { orderly = o; at = g; free = f })
-      ∙ ap (λ z. begun z t) (sym (entry-free out b n x true f))
-  | inr f ↦ entry-free out (begun b t) n x false f ∙ ap (λ z. begun z t) (sym (entry-free out b n x false f))
+marked_found : (out : OutcomeOf) (f : ℕ → ℕ) (b : Board) (n t : ℕ) (w : Waits) (v : Option Entry) → slice_get b.entries n ≡ v → IsOrderly b → is_idle (slice_get b.waits t) ≡ true → settle_entry out (marked f b t w) n v ≡ marked f (settle_entry out b n v) t w
+marked_found out f b n t w None g o i = entry-none out (marked f b t w) n ∙ ap (λ z. marked f z t w) (sym (entry-none out b n))
+marked_found out f b n t w (Some x) g o i = elim (cases_Bool (is_free b.entries n x)) [
+  | inl v ↦
+    entry-free out (marked f b t w) n x true v ∙ marked-effect out f b n x t w i (record { orderly = o; at = g; free = v })
+    ∙ ap (λ z. marked f z t w) (sym (entry-free out b n x true v))
+  | inr v ↦ entry-free out (marked f b t w) n x false v ∙ ap (λ z. marked f z t w) (sym (entry-free out b n x false v))
 ]
 
-begun-upto : (out : OutcomeOf) (b : Board) (n t : ℕ) → IsOrderly b → is_idle (slice_get b.waits t) ≡ true → settle_upto out (begun b t) n ≡ begun (settle_upto out b n) t
-begun-upto out b zero t o i = refl
-begun-upto out b (suc n) t o i =
+marked-upto : (out : OutcomeOf) (f : ℕ → ℕ) (b : Board) (n t : ℕ) (w : Waits) → IsOrderly b → is_idle (slice_get b.waits t) ≡ true → settle_upto out (marked f b t w) n ≡ marked f (settle_upto out b n) t w
+marked-upto out f b zero t w o i = refl
+marked-upto out f b (suc n) t w o i =
     let c = settle_upto out b n in
     let k = upto-keeps (λ z. is_idle (slice_get z.waits t) ≡ true) out (λ z m x p r. idle-effect out z m x t p r) b n o i in
-    ap (settle_one out n) (begun-upto out b n t o i) ∙ begun_found out c n t (slice_get c.entries n) refl k.0 k.1
+    ap (settle_one out n) (marked-upto out f b n t w o i) ∙ marked_found out f c n t w (slice_get c.entries n) refl k.0 k.1
 
 pub begun-settle : (out : OutcomeOf) (b : Board) (t : ℕ) → IsOrderly b → is_idle (slice_get b.waits t) ≡ true → settle out (begun b t) ≡ begun (settle out b) t
-begun-settle out b t o i = begun-upto out b (length b.entries) t o i
+begun-settle out b t o i = marked-upto out suc b (length b.entries) t Never o i
+
+pub await-settle : (out : OutcomeOf) (b : Board) (t : ℕ) (w : Waits) → IsOrderly b → is_idle (slice_get b.waits t) ≡ true → settle out (await b t w) ≡ await (settle out b) t w
+await-settle out b t w o i = marked-upto out (λ n. n) b (length b.entries) t w o i

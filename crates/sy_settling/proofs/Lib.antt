@@ -9,3 +9,5 @@ pub mod Follows
 pub mod Late
 pub mod Alike
 pub mod Orders
+pub mod Told
+pub mod Lagging

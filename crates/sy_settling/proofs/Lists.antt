@@ -1,11 +1,14 @@
 -- Lists with one member changed, set or added.
-use Rattle.std.proofs.Common.{◌≡◌, ◌≢◌, ℕ, zero, suc, ◌+◌, ◌<◌, ◌≤◌, List, [], ◌∷◌, ◌++◌, length, take, set, Bool, true, false, Some, refl, ap, ◌∙◌, subst, arith}
+use Rattle.std.proofs.Common.{◌≡◌, ◌≢◌, ℕ, zero, suc, ◌+◌, ◌<◌, ◌≤◌, List, [], ◌∷◌, ◌++◌, length, take, set, Bool, true, false, Some, refl, sym, ap, ◌∙◌, subst, arith}
 use Rattle.std.specs.Prelude.{slice_get, option_map, ◌||◌, ◌&&◌, not}
 use Rattle.std.specs.List.{list_any}
 use Rattle.sy_onecopy.specs.Each.{each_from, changed_at}
 
 pub other_suc : {j k : ℕ} → suc j ≢ suc k → j ≢ k
 other_suc h e = h (ap suc e)
+
+pub some_is : {A : Type 0} {x y : A} → Some x ≡ Some y → x ≡ y
+some_is p = cc
 
 -- ---- one member changed
 
@@ -96,6 +99,22 @@ get-set_other (x ∷ xs) zero (suc j) a h = refl
 get-set_other (x ∷ xs) (suc i) zero a h = refl
 get-set_other (x ∷ xs) (suc i) (suc j) a h = get-set_other xs i j a (other_suc h)
 
+pub set_is : {A : Type 0} (xs : List A) (i : ℕ) (a b : A) → slice_get (set xs i a) i ≡ Some b → a ≡ b
+set_is [] i a b g = absurd cc
+set_is (x ∷ xs) zero a b g = some_is g
+set_is (x ∷ xs) (suc i) a b g = set_is xs i a b g
+
+pub get-set : {A : Type 0} (xs : List A) (i : ℕ) (a : A) → i < length xs → slice_get (set xs i a) i ≡ Some a
+get-set [] i a lt = absurd (omega arith)
+get-set (x ∷ xs) zero a lt = refl
+get-set (x ∷ xs) (suc i) a lt = get-set xs i a (omega arith)
+
+-- what is there already is set
+pub set-same : {A : Type 0} (xs : List A) (i : ℕ) (a : A) → slice_get xs i ≡ Some a → set xs i a ≡ xs
+set-same [] i a g = refl
+set-same (x ∷ xs) zero a g = ap (λ y. y ∷ xs) (sym (some_is g))
+set-same (x ∷ xs) (suc i) a g = ap (λ l. x ∷ l) (set-same xs i a g)
+
 -- ---- one member added
 
 pub get-append : {A : Type 0} (xs ys : List A) (k : ℕ) → k < length xs → slice_get (xs ++ ys) k ≡ slice_get xs k
@@ -142,9 +161,6 @@ and_true a b p q = ap (λ t. t && b) p ∙ q
 pub not_true : (a : Bool) → not a ≡ true → a ≡ false
 not_true true h = absurd cc
 not_true false h = refl
-
-pub some_is : {A : Type 0} {x y : A} → Some x ≡ Some y → x ≡ y
-some_is p = cc
 
 pub any-at : {A : Type 0} (p : A → Bool) (xs : List A) (k : ℕ) (x : A) → list_any p xs ≡ false → slice_get xs k ≡ Some x → p x ≡ false
 any-at p [] k x h g = absurd cc

@@ -1,39 +1,66 @@
 -- The boards of legal orders are in order.
-use Rattle.std.proofs.Common.{◌≡◌, ℕ, List, [], ◌∷◌, map, true, Option, Some, None, refl, sym, ap, ◌∙◌, subst, inl, inr}
-use Rattle.std.specs.Prelude.{slice_get, ◌^◌, nat_lt, ◌&&◌, if◌then◌else◌}
+use Rattle.std.proofs.Common.{◌≡◌, ◌≤◌, ℕ, zero, suc, List, [], ◌∷◌, length, map, true, Option, Some, None, refl, sym, ap, ◌∙◌, subst, inl, inr, arith}
+use Rattle.std.specs.Prelude.{slice_get, option_map, ◌^◌, nat_lt, ◌&&◌, if◌then◌else◌}
 use Rattle.std.proofs.lemmas.Bool.{cases_Bool}
+use Rattle.std.proofs.lemmas.List.{length-map}
 use Rattle.std.proofs.lemmas.Option.{slice_get-map}
-use Rattle.std.specs.Prelude.{option_map}
 use Rattle.sy_work.specs.Programs.{Program, OutcomeOf}
 use Rattle.sy_work.specs.declared.asks.Ask.{Ask}
 use Rattle.sy_work.specs.declared.asks.Ask.TheVariants.{ThrowQueue}
+use Rattle.sy_work.specs.declared.asks.Answer.TheVariants.{Done as Answered}
 use Rattle.sy_onecopy.specs.declared.Waits.{Waits}
 use Rattle.sy_onecopy.specs.declared.Waits.TheVariants.{Ready, Due, OnEntry, OnNode, OnQueue, OnThread, Never, Finished}
 use Rattle.sy_onecopy.specs.State.{Board, State, opening, start, next_ask}
 use Rattle.sy_onecopy.specs.Settle.{settle}
-use Rattle.sy_onecopy.specs.Step.{apply, begun, given, give_all, turn, once_heard, step}
+use Rattle.sy_onecopy.specs.Step.{apply, begun, is_due, given, give_all, turn, once_heard, step}
 use Rattle.sy_onecopy.specs.Sequence.{goes_on, ready_at, is_clear, may_step, is_legal, seq_from, seq}
 use Rattle.sy_settling.specs.Orderly.{is_idle, IsOrderly, MayAsk}
-use Rattle.sy_settling.proofs.Lists.{and_left, and_right, some_is}
+use Rattle.sy_settling.proofs.Lists.{get-set, and_left, and_right, some_is}
 use Rattle.sy_settling.proofs.Settling.{orderly-settle}
-use Rattle.sy_settling.proofs.Follows.{WaitsGo, buffers-stay, waits-set, idle_within, get-set_same, orderly-same, apply-follows}
+use Rattle.sy_settling.proofs.Follows.{WaitsGo, buffers-stay, waits-set, idle_within, orderly-same, apply-follows}
 use Rattle.sy_settling.proofs.Late.{ask-settle}
 
-waits-map : (f : Waits → Waits) (xs : List Waits) → f OnEntry ≡ OnEntry → WaitsGo xs (map f xs)
-waits-map f xs h = record { still = λ u g. slice_get-map f xs u ∙ ap (option_map f) g ∙ ap Some h }
+map_queued : (f : Waits → Waits) → ((w : Waits) (q n : ℕ) → f w ≡ OnQueue q n → w ≡ OnQueue q n) → (xs : List Waits) (u q n : ℕ) → slice_get (map f xs) u ≡ Some (OnQueue q n) → slice_get xs u ≡ Some (OnQueue q n)
+map_queued f h [] u q n g = g
+map_queued f h (x ∷ xs) zero q n g = ap Some (h x q n (some_is g))
+map_queued f h (x ∷ xs) (suc u) q n g = map_queued f h xs u q n g
+
+waits-map : (b c : Board) (f : Waits → Waits) → c.waits ≡ map f b.waits → b.nodes ≤ c.nodes → f OnEntry ≡ OnEntry → ((w : Waits) (q n : ℕ) → f w ≡ OnQueue q n → w ≡ OnQueue q n) → WaitsGo b c
+waits-map b c f e m h k = record {
+  still = λ u g. ap (λ l. slice_get l u) e ∙ slice_get-map f b.waits u ∙ ap (option_map f) g ∙ ap Some h;
+  queued = λ o u q n g. (let z : n ≤ b.nodes = o u q n (map_queued f k b.waits u q n (ap (λ l. slice_get l u) (sym e) ∙ g)) in omega arith);
+  threads = omega (arith, ap length e, length-map b.waits f);
+  nodes = m;
+}
+
+given_queued : (b : Board) (w : Waits) (q n : ℕ) → given b w ≡ OnQueue q n → w ≡ OnQueue q n
+given_queued b w q n h = elim (cases_Bool (is_due b w)) [
+  | inl v ↦ absurd (let z : Due Answered ≡ OnQueue q n = sym (ap (λ u. if u then Due Answered else w) v) ∙ h in cc)
+  | inr v ↦ sym (ap (λ u. if u then Due Answered else w) v) ∙ h
+]
+
+heard_queued : (w : Waits) (q n : ℕ) → once_heard w ≡ OnQueue q n → w ≡ OnQueue q n
+heard_queued (Due a) q n h = absurd cc
+heard_queued w q n h = h
 
 pub orderly-give : (b : Board) → IsOrderly b → IsOrderly (give_all b)
 unfolding give_all
-orderly-give b o = orderly-same b (give_all b) refl (buffers-stay b.buffers) (waits-map (given b) b.waits refl) o
+orderly-give b o = orderly-same b (give_all b) refl (buffers-stay b.buffers) (waits-map b (give_all b) (given b) refl (omega arith) refl (given_queued b)) o
 
-orderly-heard : (b : Board) → IsOrderly b → IsOrderly (record b { waits = map once_heard b.waits })
-orderly-heard b o = orderly-same b (record b { waits = map once_heard b.waits }) refl (buffers-stay b.buffers) (waits-map once_heard b.waits refl) o
+pub orderly-heard : (b : Board) → IsOrderly b → IsOrderly (record b { waits = map once_heard b.waits })
+orderly-heard b o =
+    let c : Board = record b { waits = map once_heard b.waits } in
+    orderly-same b c refl (buffers-stay b.buffers) (waits-map b c once_heard refl (omega arith) refl heard_queued) o
 
 pub orderly-begun : (b : Board) (t : ℕ) → IsOrderly b → is_idle (slice_get b.waits t) ≡ true → IsOrderly (begun b t)
-orderly-begun b t o i = orderly-same b (begun b t) refl (buffers-stay b.buffers) (waits-set b.waits t Never i) o
+orderly-begun b t o i = orderly-same b (begun b t) refl (buffers-stay b.buffers) (waits-set b (begun b t) t Never refl (omega arith) i refl) o
 
 pub orderly-apply : (b : Board) (t : ℕ) (q : Ask) → IsOrderly b → MayAsk b t q → IsOrderly (apply b t q)
 orderly-apply b t q o m = (apply-follows b t q m.idle).orderly o
+
+only_ready : (t q n : ℕ) → slice_get opening.waits t ≡ Some (OnQueue q n) → {A : Type 0} → A
+only_ready zero q n g = absurd cc
+only_ready (suc t) q n g = absurd cc
 
 pub orderly-opening : IsOrderly opening
 orderly-opening = record {
@@ -42,6 +69,7 @@ orderly-opening = record {
   there = λ k e p. absurd (let z = p.0 in cc);
   whole = λ k t r e p w. absurd (let z = p.0 in cc);
   open_first = λ k e p s. absurd cc;
+  queued = λ t q n g. only_ready t q n g;
 }
 
 -- ---- a legal step
@@ -69,12 +97,12 @@ legal_clear p s t h =
     let m = and_left (may_step p s t) (nat_lt s.board.steps (2 ^ 24)) h in
     and_right (ready_at (slice_get s.board.waits t)) (is_clear s.board (next_ask p s t)) (and_right (goes_on s.board) (ready_at (slice_get s.board.waits t) && is_clear s.board (next_ask p s t)) m)
 
-clear_begun : (b : Board) (t : ℕ) (q : Ask) → is_clear b q ≡ true → is_clear (begun b t) q ≡ true
+pub clear_begun : (b : Board) (t : ℕ) (q : Ask) → is_clear b q ≡ true → is_clear (begun b t) q ≡ true
 clear_begun b t (ThrowQueue q) h = h
 clear_begun b t q h = refl
 
-idle_begun : (b : Board) (t : ℕ) → is_idle (slice_get b.waits t) ≡ true → is_idle (slice_get (begun b t).waits t) ≡ true
-idle_begun b t i = ap is_idle (get-set_same b.waits t Never (idle_within b.waits t i))
+pub idle_begun : (b : Board) (t : ℕ) → is_idle (slice_get b.waits t) ≡ true → is_idle (slice_get (begun b t).waits t) ≡ true
+idle_begun b t i = ap is_idle (get-set b.waits t Never (idle_within b.waits t i))
 
 pub legal_may_ask : (p : Program) (s : State) (t : ℕ) → is_legal p s t ≡ true → MayAsk (begun s.board t) t (next_ask p s t)
 legal_may_ask p s t h = record {

@@ -1,7 +1,8 @@
 -- Boards whose entries may not have settled yet.
-use Rattle.std.specs.Prelude.{◌≡◌, ℕ, Bool, true, false, nat_lt, List, [], ◌∷◌, length, map, take, Option, Some, None, slice_get}
+use Rattle.std.specs.Prelude.{◌≡◌, ◌≤◌, ℕ, Bool, true, false, nat_lt, List, [], ◌∷◌, length, map, take, Option, Some, None, slice_get}
 use Rattle.std.specs.List.{list_all}
 use Rattle.sy_access.specs.declared.access.Need.{Need}
+use Rattle.sy_work.specs.Programs.{OutcomeOf}
 use Rattle.sy_work.specs.declared.asks.Ask.{Ask}
 use Rattle.sy_onecopy.specs.declared.Buffer.{Buffer}
 use Rattle.sy_onecopy.specs.declared.Origin.{Origin}
@@ -10,11 +11,11 @@ use Rattle.sy_onecopy.specs.declared.Work.{Work}
 use Rattle.sy_onecopy.specs.declared.Work.TheVariants.{Node, Access, End}
 use Rattle.sy_onecopy.specs.declared.Stage.TheVariants.{Pending, Granted}
 use Rattle.sy_onecopy.specs.declared.Waits.{Waits}
-use Rattle.sy_onecopy.specs.declared.Waits.TheVariants.{OnEntry}
+use Rattle.sy_onecopy.specs.declared.Waits.TheVariants.{OnEntry, OnQueue}
 use Rattle.sy_onecopy.specs.Before.{is_pending, is_held, is_free}
 use Rattle.sy_onecopy.specs.State.{Board}
-use Rattle.sy_onecopy.specs.Settle.{with_stage}
-use Rattle.sy_onecopy.specs.Step.{whole}
+use Rattle.sy_onecopy.specs.Settle.{with_stage, settle}
+use Rattle.sy_onecopy.specs.Step.{whole, give_all, once_heard}
 use Rattle.sy_onecopy.specs.Sequence.{is_clear}
 
 -- this entry stands at k
@@ -51,10 +52,14 @@ pub record IsOrderly (b : Board) : Type 0 where
   pub awaited : (k t : ℕ) (e : Entry) → IsPendingAt b.entries k e → waiter e.work ≡ Some t → slice_get b.waits t ≡ Some OnEntry
   -- for one entry
   pub alone : (j k t : ℕ) (x y : Entry) → IsPendingAt b.entries j x → IsPendingAt b.entries k y → waiter x.work ≡ Some t → waiter y.work ≡ Some t → j ≡ k
+  -- the buffers that a pending entry needs are there
   pub there : (k : ℕ) (e : Entry) → IsPendingAt b.entries k e → are_there (length b.buffers) e.needs ≡ true
+  -- and the end of one needs all of it
   pub whole : (k t r : ℕ) (e : Entry) → IsPendingAt b.entries k e → e.work ≡ End t r → NeedsWhole b.buffers r e.needs
   -- an open host access waits for nothing
   pub open_first : (k : ℕ) (e : Entry) → IsAt b.entries k e → e.stage ≡ Granted → is_held (take k b.entries) e ≡ false
+  -- a thread that waits for a queue waits for nodes that are there
+  pub queued : (t q n : ℕ) → slice_get b.waits t ≡ Some (OnQueue q n) → n ≤ b.nodes
 
 -- the thread is there and waits for no entry
 abbrev pub is_idle : Option Waits → Bool
@@ -82,3 +87,11 @@ pub record IsAlike (b c : Board) : Type 0 where
   pub output : b.output ≡ c.output
   pub ended : b.ended ≡ c.ended
   pub steps : b.steps ≡ c.steps
+
+-- the answers that are given reach their threads
+abbrev pub heard : Board → Board
+heard b = record b { waits = map once_heard b.waits }
+
+-- the board once its entries have settled, and each answer that is due has reached its thread
+abbrev pub caught_up : OutcomeOf → Board → Board
+caught_up out b = heard (give_all (settle out b))

@@ -4,11 +4,13 @@ ghost use Rattle.std.specs.Prelude.{◌≡◌, ℕ, List, true, Some, slice_get}
 ghost use Rattle.sy_work.specs.declared.asks.Ask.{Ask};
 ghost use Rattle.sy_work.specs.Programs.{OutcomeOf, Program};
 ghost use Rattle.sy_onecopy.specs.declared.Entry.{Entry};
-ghost use Rattle.sy_onecopy.specs.Settle.{effect, settle};
+ghost use Rattle.sy_onecopy.specs.declared.Waits.TheVariants.{Ready};
+ghost use Rattle.sy_onecopy.specs.declared.Waits.{Waits};
+ghost use Rattle.sy_onecopy.specs.Settle.{await, effect, settle};
 ghost use Rattle.sy_onecopy.specs.State.{Board, State, next_ask, opening};
-ghost use Rattle.sy_onecopy.specs.Step.{apply, begun, give_all};
-ghost use Rattle.sy_onecopy.specs.Sequence.{is_legal, seq};
-ghost use Rattle.sy_settling.specs.Orderly.{IsAlike, IsFreeAt, IsOrderly, MayAsk, is_idle};
+ghost use Rattle.sy_onecopy.specs.Step.{apply, begun, give_all, given, once_heard, turn};
+ghost use Rattle.sy_onecopy.specs.Sequence.{is_clear, is_legal, seq};
+ghost use Rattle.sy_settling.specs.Orderly.{IsAlike, IsFreeAt, IsOrderly, MayAsk, caught_up, heard, is_idle};
 
 /// An entry that may take effect does so, whichever it is, and then the board settles: that is settling.
 pub fn one_effect_then_settling()
@@ -37,6 +39,14 @@ pub fn settling_keeps()
     ensures answer { (out : OutcomeOf) (b : Board) (t : ℕ) (q : Ask) → IsOrderly b → MayAsk b t q → slice_get (apply (settle out b) t q).waits t ≡ slice_get (apply b t q).waits t }
 {}
 
+/// A board on which entries have not settled and answers have not been given lags behind the board
+/// that has caught up. A thread whose wait is over may hear of it first, and a step on the one and on
+/// the other comes to the same.
+pub fn lagging_boards_keep_step()
+    ensures heard { (out : OutcomeOf) (b : Board) (t : ℕ) (w : Waits) → IsOrderly b → slice_get b.waits t ≡ Some w → once_heard (given b w) ≡ Ready → caught_up out (await b t Ready) ≡ caught_up out b }
+    ensures step { (out : OutcomeOf) (b : Board) (t : ℕ) (q : Ask) → IsOrderly b → slice_get b.waits t ≡ Some Ready → is_clear b q ≡ true → heard (turn out (caught_up out b) t q) ≡ heard (turn out b t q) }
+{}
+
 /// What the laws above ask of a board holds at the start, and goes on through effects, settling,
 /// asks and answers.
 pub fn order_is_kept()
@@ -47,6 +57,7 @@ pub fn order_is_kept()
     ensures begun { (b : Board) (t : ℕ) → IsOrderly b → is_idle (slice_get b.waits t) ≡ true → IsOrderly (begun b t) }
     ensures asked { (b : Board) (t : ℕ) (q : Ask) → IsOrderly b → MayAsk b t q → IsOrderly (apply b t q) }
     ensures given { (b : Board) → IsOrderly b → IsOrderly (give_all b) }
+    ensures heard { (b : Board) → IsOrderly b → IsOrderly (heard b) }
 {}
 
 /// The states of legal orders have what the laws above ask for.

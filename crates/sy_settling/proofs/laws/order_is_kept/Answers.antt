@@ -1,7 +1,7 @@
 use Rattle.sy_settling.proofs.Kept.{orderly-effect}
 use Rattle.sy_settling.proofs.Settling.{orderly-settle}
 use Rattle.sy_settling.proofs.Late.{may_ask-effect}
-use Rattle.sy_settling.proofs.Orders.{orderly-opening, orderly-begun, orderly-apply, orderly-give}
+use Rattle.sy_settling.proofs.Orders.{orderly-opening, orderly-begun, orderly-apply, orderly-give, orderly-heard}
 use Rattle.sy_settling.proofs.laws.order_is_kept.Goals as goal
 
 pub returns-clause-opening : goal.returns-clause-opening
@@ -24,3 +24,6 @@ returns-clause-asked c = orderly-apply
 
 pub returns-clause-given : goal.returns-clause-given
 returns-clause-given c = orderly-give
+
+pub returns-clause-heard : goal.returns-clause-heard
+returns-clause-heard c = orderly-heard
