@@ -128,8 +128,8 @@ pub told-queued : (d : Option (ℕ × Waits)) (ws : List Waits) (t q n : ℕ) �
 told-queued None ws t q n h g = g
 told-queued (Some x) ws t q n h g = elim (cases_eq t x.0) [
   | inl e ↦
-    let here : slice_get (set ws x.0 x.1) x.0 ≡ Some (OnQueue q n) = subst (λ i. slice_get (set ws x.0 x.1) i ≡ Some (OnQueue q n)) e g in
-    let is : x.1 ≡ OnQueue q n = set_is ws x.0 x.1 (OnQueue q n) here in
-    absurd (let z : Due (h x refl).0 ≡ OnQueue q n = sym (h x refl).1 ∙ is in cc)
+      let here : slice_get (set ws x.0 x.1) x.0 ≡ Some (OnQueue q n) = subst (λ i. slice_get (set ws x.0 x.1) i ≡ Some (OnQueue q n)) e g in
+      let is : x.1 ≡ OnQueue q n = set_is ws x.0 x.1 (OnQueue q n) here in
+      absurd (let z : Due (h x refl).0 ≡ OnQueue q n = sym (h x refl).1 ∙ is in cc)
   | inr ne ↦ sym (get-set_other ws x.0 t x.1 ne) ∙ g
 ]

@@ -35,8 +35,8 @@ use Rattle.sy_onecopy.specs.Settle.{with_stage, await, reply, to_stage}
 use Rattle.sy_onecopy.specs.Step.{printed, made_buffer, add_buffer, made_part, mark_ended, with_end, add_entry, end_entry, end_root, end_buffer, opened_host, access_entry, accesses, is_access, is_access_of, access_from, cell_put, buffer_put, put_back, closed, close_entry, close_at, close_found, made_context, made_queue, add_node, node_entry, submitted, wait_if, thrown, throw_queue, spawned, apply, error_on, error_in, or_later, is_root, count_of, is_root_need, are_root_needs, are_different, are_below, has_needs, has_count, live_elements, holds_together, is_node_on, new_buffer, part_buffer}
 use Rattle.sy_onecopy.specs.Sequence.{is_clear, has_open_node_on}
 use Rattle.sy_settling.specs.Orderly.{IsAt, IsPendingAt, waiter, is_idle, IsOrderly}
-use Rattle.sy_settling.proofs.Lists.{get-changed_other, changed-append, each-changed, length-each, or_left, and_left, some_is, any-at}
-use Rattle.sy_settling.proofs.Cells.{Cells, mapped, buffer_by, get-mapped, mapped-kept, KeepsBut, each_kept}
+use Rattle.sy_settling.proofs.Lists.{get-changed_other, changed-append, each-changed, length-each, or_left, and_left, some_is, any-at, not_true}
+use Rattle.sy_settling.proofs.Cells.{Cells, mapped, buffer_by, get-mapped, mapped-kept, KeepsBut, mapped-append}
 use Rattle.sy_settling.proofs.Acts.{Act, told, told-set, after, build, build-same}
 use Rattle.sy_settling.proofs.Kept.{Acts, after-swap}
 
@@ -82,19 +82,19 @@ live_same : (h : Cells) (xs : List Buffer) → live_elements (mapped h xs) ≡ l
 unfolding live_elements
 live_same h xs = sums_from (λ x. if x.ended then 0 else length x.values) (buffer_by h) (live_one h) 0 0 xs
 
-root_by : (h : Cells) (r : ℕ) (o : Option Buffer) → is_root (option_map (buffer_by h r) o) ≡ is_root o
-root_by h r None = refl
-root_by h r (Some x) = refl
+root_kept : (h : Cells) (r : ℕ) (o : Option Buffer) → is_root (option_map (buffer_by h r) o) ≡ is_root o
+root_kept h r None = refl
+root_kept h r (Some x) = refl
 
 pub root_same : (h : Cells) (xs : List Buffer) (r : ℕ) → is_root (slice_get (mapped h xs) r) ≡ is_root (slice_get xs r)
-root_same h xs r = ap is_root (get-mapped h xs r) ∙ root_by h r (slice_get xs r)
+root_same h xs r = ap is_root (get-mapped h xs r) ∙ root_kept h r (slice_get xs r)
 
-count_by_map : (h : Cells) (r : ℕ) (o : Option Buffer) → count_of (option_map (buffer_by h r) o) ≡ count_of o
-count_by_map h r None = refl
-count_by_map h r (Some x) = length-each (h r) 0 x.values
+count_kept : (h : Cells) (r : ℕ) (o : Option Buffer) → count_of (option_map (buffer_by h r) o) ≡ count_of o
+count_kept h r None = refl
+count_kept h r (Some x) = length-each (h r) 0 x.values
 
 pub count_same : (h : Cells) (xs : List Buffer) (r : ℕ) → count_of (slice_get (mapped h xs) r) ≡ count_of (slice_get xs r)
-count_same h xs r = ap count_of (get-mapped h xs r) ∙ count_by_map h r (slice_get xs r)
+count_same h xs r = ap count_of (get-mapped h xs r) ∙ count_kept h r (slice_get xs r)
 
 root_need_same : (h : Cells) (xs : List Buffer) (n : Need) → is_root_need (mapped h xs) n ≡ is_root_need xs n
 unfolding is_root_need
@@ -107,7 +107,7 @@ added-after b a k e t x s =
     let there = s.orderly.there k e (s.acts.at, s.pending) in
     let n = length b.buffers in
     await-after (record b { buffers = b.buffers ++ x ∷ [] }) a k t (Due (Number n)) (untold b a k e t s)
-    ∙ ap (λ l. reply (build b l (changed_at (with_stage a.stage) k b.entries) (told a.due b.waits)) t (Number n)) (each_kept a.cells e.needs b.buffers x s.acts.of.keeps there)
+    ∙ ap (λ l. reply (build b l (changed_at (with_stage a.stage) k b.entries) (told a.due b.waits)) t (Number n)) (mapped-append a.cells e.needs b.buffers x s.acts.of.keeps there)
     ∙ ap (λ i. reply (build b (mapped a.cells b.buffers ++ x ∷ []) (changed_at (with_stage a.stage) k b.entries) (told a.due b.waits)) t (Number i)) (sym (length-each (buffer_by a.cells) 0 b.buffers))
 
 made_buffer-after : (b : Board) (a : Act) (k : ℕ) (e : Entry) (t : ℕ) (m : NewBuffer) → Scene b a k e t → after a k (made_buffer b t m) ≡ made_buffer (after a k b) t m
@@ -405,10 +405,6 @@ spawned-after b a k e t s =
 
 -- ---- any ask
 
-no_not : (v : Bool) → not v ≡ true → v ≡ false
-no_not true h = sym h
-no_not false h = refl
-
 pub apply-after : (b : Board) (a : Act) (k : ℕ) (e : Entry) (t : ℕ) (q : Ask) → Scene b a k e t → is_clear b q ≡ true → after a k (apply b t q) ≡ apply (after a k b) t q
 unfolding apply
 apply-after b a k e t (Print bytes) s h = printed-after b a k e t bytes s
@@ -422,7 +418,7 @@ apply-after b a k e t (MakeQueue m) s h = made_queue-after b a k e t m s
 apply-after b a k e t (Submit m) s h = submitted-after b a k e t m (slice_get b.queues m.queue) s
 apply-after b a k e t (WaitNode n) s h = wait_if-after _ _ b a k e t (OnNode n) refl s
 apply-after b a k e t (WaitQueue q) s h = wait_if-after _ _ b a k e t (OnQueue q b.nodes) refl s
-apply-after b a k e t (ThrowQueue q) s h = throw-after b a k e t q s (no_not (has_open_node_on b.entries q) h)
+apply-after b a k e t (ThrowQueue q) s h = throw-after b a k e t q s (not_true (has_open_node_on b.entries q) h)
 apply-after b a k e t (Spawn body captures) s h = spawned-after b a k e t s
 apply-after b a k e t (Join u) s h = wait_if-after _ _ b a k e t (OnThread u) (ap (nat_lt u) (sym (told-length a.due b.waits))) s
 apply-after b a k e t (Finish v) s h = await-after b a k t (Finished v) (untold b a k e t s)

@@ -170,9 +170,9 @@ there_unwritten count (n ∷ ns) i h =
     (there_unwritten count ns i (and_right (nat_lt n.buffer count) (are_there count ns) h))
 
 -- elements of a buffer that is added are in no need of an entry that was there
-pub each_kept : (h : Cells) (needs : List Need) (buffers : List Buffer) (x : Buffer) → KeepsBut h needs → are_there (length buffers) needs ≡ true → mapped h (buffers ++ x ∷ []) ≡ mapped h buffers ++ x ∷ []
+pub mapped-append : (h : Cells) (needs : List Need) (buffers : List Buffer) (x : Buffer) → KeepsBut h needs → are_there (length buffers) needs ≡ true → mapped h (buffers ++ x ∷ []) ≡ mapped h buffers ++ x ∷ []
 unfolding with_values
-each_kept h needs buffers x k there =
+mapped-append h needs buffers x k there =
     let n = length buffers in
     each-append (buffer_by h) 0 buffers x
     ∙ ap (λ i. mapped h buffers ++ buffer_by h i x ∷ []) (let e : 0 + n ≡ n = omega arith in e)

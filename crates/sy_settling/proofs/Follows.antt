@@ -35,7 +35,7 @@ use Rattle.sy_onecopy.specs.Each.{each_from}
 use Rattle.sy_onecopy.specs.Settle.{with_stage, await, reply}
 use Rattle.sy_onecopy.specs.Step.{node_done, queue_done, is_past, is_node_on, number_of, printed, made_buffer, made_part, mark_ended, with_end, add_entry, end_entry, end_root, end_buffer, opened_host, access_entry, accesses, access_from, closed, close_entry, close_at, close_found, made_context, made_queue, add_node, node_entry, submitted, wait_if, thrown, throw_queue, spawned, apply, error_on, is_root, count_of, is_root_need, are_root_needs, are_different, are_below, has_needs, has_count, live_elements, holds_together}
 use Rattle.sy_settling.specs.Orderly.{IsAt, IsPendingAt, waiter, is_idle, are_there, NeedsWhole, IsOrderly}
-use Rattle.sy_settling.proofs.Lists.{get-changed, get-changed_other, length-changed, get-append, get-set, get-set_other, set_is, and_left, and_right, and_true, some_is}
+use Rattle.sy_settling.proofs.Lists.{get-changed, get-changed_other, length-changed, get-append, get-set, get-set_other, set_is, and_left, and_right, and_true, some_is, or_true, or_rest, or_start, no_right}
 use Rattle.sy_settling.proofs.Acts.{Act, Seen, seen, seen-kept, after}
 use Rattle.sy_settling.proofs.Cells.{meet_comm}
 use Rattle.sy_settling.proofs.Free.{free-pending, free-unheld, pending-open, strangers, free-changed}
@@ -207,33 +207,18 @@ queue-added : (xs : List Entry) (x : Entry) (q n : ℕ) → is_past q n x ≡ tr
 unfolding queue_done
 queue-added xs x q n k h = list_all-append (is_past q n) xs (x ∷ []) ∙ and_true (list_all (is_past q n) xs) (is_past q n x && true) h (and_true (is_past q n x) true k refl)
 
-or_second : (v w : Bool) → w ≡ true → (v || w) ≡ true
-or_second true w h = refl
-or_second false w h = h
-
-or_rest : (v w : Bool) → v ≡ false → (v || w) ≡ true → w ≡ true
-or_rest v w e h = ap (λ u. u || w) (sym e) ∙ h
-
-or_start : (v w : Bool) → w ≡ false → (v || w) ≡ true → v ≡ true
-or_start true w e h = refl
-or_start false w e h = sym e ∙ h
-
-no_second : (v w : Bool) → w ≡ false → (v && w) ≡ false
-no_second true w h = h
-no_second false w h = refl
-
 node-changed : (s : Stage) (k : ℕ) (xs : List Entry) (e : Entry) (n : ℕ) → IsAt xs k e → is_done e.stage ≡ false → node_done xs n ≡ true → node_done (changed_at (with_stage s) k xs) n ≡ true
 unfolding node_done
 node-changed s k [] e n g d h = h
 node-changed s zero (x ∷ xs) e n g d h =
     let p = λ (y : Entry). is_node y.work n && is_done y.stage in
     let undone : is_done x.stage ≡ false = ap (λ (y : Entry). is_done y.stage) (some_is g) ∙ d in
-    or_second (p (with_stage s x)) (list_any p xs) (or_rest (p x) (list_any p xs) (no_second (is_node x.work n) (is_done x.stage) undone) h)
+    or_true (p (with_stage s x)) (list_any p xs) (or_rest (p x) (list_any p xs) (no_right (is_node x.work n) (is_done x.stage) undone) h)
 node-changed s (suc k) (x ∷ xs) e n g d h =
     let p = λ (y : Entry). is_node y.work n && is_done y.stage in
     elim (cases_Bool (p x)) [
       | inl v ↦ ap (λ u. u || list_any p (changed_at (with_stage s) k xs)) v
-      | inr v ↦ or_second (p x) (list_any p (changed_at (with_stage s) k xs)) (node-changed s k xs e n g d (or_rest (p x) (list_any p xs) v h))
+      | inr v ↦ or_true (p x) (list_any p (changed_at (with_stage s) k xs)) (node-changed s k xs e n g d (or_rest (p x) (list_any p xs) v h))
     ]
 
 queue-changed : (s : Stage) (k : ℕ) (xs : List Entry) (e : Entry) (q n : ℕ) → IsAt xs k e → is_done e.stage ≡ false → queue_done xs q n ≡ true → queue_done (changed_at (with_stage s) k xs) q n ≡ true
@@ -246,7 +231,7 @@ queue-changed s zero (x ∷ xs) e q n g d h =
     and_true (is_past q n (with_stage s x)) (list_all (is_past q n) xs) (ap (λ u. u || is_done s) is) (and_right (is_past q n x) (list_all (is_past q n) xs) h)
 queue-changed s (suc k) (x ∷ xs) e q n g d h =
     and_true (is_past q n x) (list_all (is_past q n) (changed_at (with_stage s) k xs)) (and_left (is_past q n x) (list_all (is_past q n) xs) h)
-      (queue-changed s k xs e q n g d (and_right (is_past q n x) (list_all (is_past q n) xs) h))
+    (queue-changed s k xs e q n g d (and_right (is_past q n x) (list_all (is_past q n) xs) h))
 
 pub lasts-after : (b : Board) (a : Act) (k : ℕ) (e : Entry) → IsAt b.entries k e → is_done e.stage ≡ false → Lasts b (after a k b)
 lasts-after b a k e g d = record {
@@ -552,7 +537,7 @@ holds_there b m h =
     (and_left (list_all (is_root_need b.buffers) m.needs && are_different m.needs) (are_below b.nodes m.after && has_needs m.needs m.command) h))
 
 not_below : (v : Bool) (n k : ℕ) → k ≤ n → (not (v && nat_lt n k) || false) ≡ true
-not_below v n k le = ap (λ u. not u || false) (no_second v (nat_lt n k) (test_not n k le))
+not_below v n k le = ap (λ u. not u || false) (no_right v (nat_lt n k) (test_not n k le))
 
 added-follows : (b : Board) (t : ℕ) (m : Submission) (x : Queue) → is_idle (slice_get b.waits t) ≡ true → are_there (length b.buffers) m.needs ≡ true → Follows b (add_node b t (node_entry b.nodes m x))
 added-follows b t m x i h =

@@ -1,5 +1,5 @@
 -- Entries that may take effect, while others change their stage.
-use Rattle.std.proofs.Common.{◌≡◌, ◌≢◌, ℕ, zero, suc, ◌<◌, List, [], ◌∷◌, take, Bool, true, false, refl, sym, ap, ◌∙◌, subst, inl, inr}
+use Rattle.std.proofs.Common.{◌≡◌, ◌≢◌, ℕ, zero, suc, ◌<◌, List, [], ◌∷◌, take, true, false, refl, sym, ap, ◌∙◌, subst, inl, inr}
 use Rattle.std.specs.Prelude.{not, ◌&&◌, ◌||◌}
 use Rattle.std.specs.List.{list_any}
 use Rattle.std.proofs.lemmas.Bool.{cases_order}
@@ -11,7 +11,7 @@ use Rattle.sy_onecopy.specs.Before.{meets, meet, before, blocks, is_named, both_
 use Rattle.sy_onecopy.specs.Settle.{with_stage}
 use Rattle.sy_onecopy.specs.Laws.{needs_meet}
 use Rattle.sy_settling.specs.Orderly.{IsAt}
-use Rattle.sy_settling.proofs.Lists.{get-take, get-of_take, take-changed, or_left, or_right, or_false, and_left, and_right, and_true, not_true, some_is, any-at}
+use Rattle.sy_settling.proofs.Lists.{get-take, get-of_take, take-changed, or_left, or_right, or_false, and_left, and_right, and_true, not_true, some_is, any-at, no_right}
 use Rattle.sy_settling.proofs.Cells.{meet_comm}
 
 pub free-pending : (xs : List Entry) (k : ℕ) (e : Entry) → is_free xs k e ≡ true → is_pending e.stage ≡ true
@@ -55,13 +55,9 @@ strangers xs j k x y ne gx gy dx dy hx hy =
       ]
     ]
 
-no_and : (a b : Bool) → b ≡ false → (a && b) ≡ false
-no_and true b h = h
-no_and false b h = refl
-
 restaged : (s : Stage) (x y : Entry) → is_done x.stage ≡ false → blocks y x ≡ false → blocks y (with_stage s x) ≡ false
 unfolding blocks before meet meets
-restaged s x y d h = no_and (not (is_done s)) (before x y) (not_before x y d h)
+restaged s x y d h = no_right (not (is_done s)) (before x y) (not_before x y d h)
 
 pub held-changed : (s : Stage) (j : ℕ) (xs : List Entry) (y : Entry) → ((x : Entry) → IsAt xs j x → is_done x.stage ≡ false) → is_held xs y ≡ false → is_held (changed_at (with_stage s) j xs) y ≡ false
 unfolding is_held

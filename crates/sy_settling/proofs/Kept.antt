@@ -59,8 +59,8 @@ free-acts b a k e g f of =
     record { at = g; undone = pending-open e.stage p; unheld = free-unheld b.entries k e f; pends = λ d q. p; of = of }
 
 -- a thread that waits for another entry is told nothing
-untold : (b : Board) (a : Act) (k j t : ℕ) (e x : Entry) → IsOrderly b → Acts b a k e → IsPendingAt b.entries j x → waiter x.work ≡ Some t → j ≢ k → (d : ℕ × Waits) → a.due ≡ Some d → t ≢ d.0
-untold b a k j t e x o c px w ne d p q = ne (o.alone j k t x e px (c.at, c.pends d p) w (c.of.tells d p ∙ ap Some (sym q)))
+others_untold : (b : Board) (a : Act) (k j t : ℕ) (e x : Entry) → IsOrderly b → Acts b a k e → IsPendingAt b.entries j x → waiter x.work ≡ Some t → j ≢ k → (d : ℕ × Waits) → a.due ≡ Some d → t ≢ d.0
+others_untold b a k j t e x o c px w ne d p q = ne (o.alone j k t x e px (c.at, c.pends d p) w (c.of.tells d p ∙ ap Some (sym q)))
 
 open_after : (b : Board) (a : Act) (k j : ℕ) (e x : Entry) → IsOrderly b → Acts b a k e → IsAt (changed_at (with_stage a.stage) k b.entries) j x → x.stage ≡ Granted → is_held (take j (changed_at (with_stage a.stage) k b.entries)) x ≡ false
 open_after b a k j e x o c h st = elim (cases_eq j k) [
@@ -81,7 +81,7 @@ orderly-after b a k e o c =
     let m = c.of.moves in
     record {
       awaited = λ j t x p w.
-          told-other a.due b.waits t (untold b a k j t e x o c (was-pending a.stage k j b.entries x m p) w (other-pending a.stage k j b.entries x m p))
+          told-other a.due b.waits t (others_untold b a k j t e x o c (was-pending a.stage k j b.entries x m p) w (other-pending a.stage k j b.entries x m p))
           ∙ o.awaited j t x (was-pending a.stage k j b.entries x m p) w;
       alone = λ i j t x y p q v w. o.alone i j t x y (was-pending a.stage k i b.entries x m p) (was-pending a.stage k j b.entries y m q) v w;
       there = λ j x p. ap (λ n. are_there n x.needs) (length-each (buffer_by a.cells) 0 b.buffers) ∙ o.there j x (was-pending a.stage k j b.entries x m p);

@@ -1,14 +1,13 @@
 -- A step on a board that lags behind.
-use Rattle.std.proofs.Common.{◌≡◌, ◌≢◌, ℕ, zero, suc, ◌+◌, ◌<◌, ◌≤◌, ℤ, List, [], ◌∷◌, length, map, set, Bool, true, false, Option, Some, None, ◌⊎◌, refl, sym, ap, ◌∙◌, subst, inl, inr, arith}
+use Rattle.std.proofs.Common.{◌≡◌, ◌≢◌, ℕ, zero, suc, ◌<◌, ℤ, List, [], ◌∷◌, length, map, set, Bool, true, false, Option, Some, None, ◌⊎◌, refl, sym, ap, ◌∙◌, subst, inl, inr, arith}
 use Rattle.std.specs.Prelude.{slice_get, if◌then◌else◌}
 use Rattle.std.proofs.lemmas.List.{length-set}
-use Rattle.std.proofs.lemmas.Bool.{cases_Bool, cases_eq}
+use Rattle.std.proofs.lemmas.Bool.{cases_eq}
 use Rattle.std.proofs.lemmas.Option.{slice_get_within}
 use Rattle.sy_work.specs.Programs.{OutcomeOf}
 use Rattle.sy_work.specs.declared.asks.Ask.{Ask}
 use Rattle.sy_work.specs.declared.asks.Ask.TheVariants.{ThrowQueue}
 use Rattle.sy_work.specs.declared.asks.Answer.TheVariants.{Done as Answered}
-use Rattle.sy_onecopy.specs.declared.Entry.{Entry}
 use Rattle.sy_onecopy.specs.declared.Waits.{Waits}
 use Rattle.sy_onecopy.specs.declared.Waits.TheVariants.{Due, Ready as NoWait, OnEntry, OnNode, OnQueue, OnThread, Never, Finished}
 use Rattle.sy_onecopy.specs.State.{Board}
@@ -17,20 +16,20 @@ use Rattle.sy_onecopy.specs.Step.{apply, begun, is_due, has_finished, given, giv
 use Rattle.sy_onecopy.specs.Sequence.{is_clear}
 use Rattle.sy_settling.specs.Orderly.{is_idle, IsOrderly, MayAsk, heard, caught_up}
 use Rattle.sy_settling.proofs.Lists.{set_is, set-same, get-set, get-set_other, some_is}
-use Rattle.sy_settling.proofs.Acts.{told-other, after}
+use Rattle.sy_settling.proofs.Acts.{told-other}
 use Rattle.sy_settling.proofs.Free.{free-pending, pending-open}
-use Rattle.sy_settling.proofs.Kept.{act_at, effect-act, Ready}
+use Rattle.sy_settling.proofs.Kept.{act_at, effect-act}
 use Rattle.sy_settling.proofs.Settling.{settle-keeps, orderly-settle}
 use Rattle.sy_settling.proofs.Asks.{untold}
-use Rattle.sy_settling.proofs.Follows.{Lasts, lasts-trans, lasts-same, lasts-after, buffers-stay, waits-set, idle_within, orderly-same, apply-follows}
+use Rattle.sy_settling.proofs.Follows.{Lasts, lasts-trans, lasts-same, lasts-after, buffers-stay, waits-set, orderly-same, apply-follows}
 use Rattle.sy_settling.proofs.Late.{scene, may_ask-effect, ask-settle, begun-settle, await-settle}
 use Rattle.sy_settling.proofs.Orders.{orderly-begun, orderly-apply, clear_begun, idle_begun}
 use Rattle.sy_settling.proofs.Told.{awaits-swap, apply-told}
 
 -- ---- waits that are over
 
-hg : Board → Board
-hg d = heard (give_all d)
+told_all : Board → Board
+told_all d = heard (give_all d)
 
 unfinished : (xs : List Waits) (u : ℕ) → has_finished (slice_get (set xs u NoWait) u) ≡ false
 unfinished [] u = refl
@@ -88,9 +87,9 @@ maps_told f g h (x ∷ xs) zero w e k m =
 maps_told f g h (x ∷ xs) (suc u) w e k m =
     ap (λ y. once_heard y ∷ map once_heard (map f (set xs u NoWait))) (h x) ∙ ap (λ l. once_heard (g x) ∷ l) (maps_told f g h xs u w e k m)
 
-hg-told : (d : Board) (u : ℕ) (w : Waits) → slice_get d.waits u ≡ Some w → once_heard (given d w) ≡ NoWait → hg (await d u NoWait) ≡ hg d
-unfolding hg give_all
-hg-told d u w g k =
+told_all-one : (d : Board) (u : ℕ) (w : Waits) → slice_get d.waits u ≡ Some w → once_heard (given d w) ≡ NoWait → told_all (await d u NoWait) ≡ told_all d
+unfolding told_all give_all
+told_all-one d u w g k =
     let h : has_finished (slice_get d.waits u) ≡ false = ap has_finished g ∙ over_unfinished d w k in
     ap (λ l. let c : Board = record d { waits = l } in c) (maps_told (given (await d u NoWait)) (given d) (λ x. given_told d u x h) d.waits u w g k refl)
 
@@ -116,15 +115,15 @@ over_lasts d c u (Finished v) o l f g h = absurd cc
 settle-still : (out : OutcomeOf) (b : Board) (u : ℕ) (w : Waits) → IsOrderly b → is_idle (Some w) ≡ true → slice_get b.waits u ≡ Some w → slice_get (settle out b).waits u ≡ Some w
 settle-still out b u w o i g =
     settle-keeps (λ d. slice_get d.waits u ≡ Some w) out
-      (λ d n x p r. ap (λ z. slice_get z.waits u) (effect-act out d n x) ∙ told-other (act_at out d x).due d.waits u (untold d (act_at out d x) n x u (scene out d n x u (ap is_idle p ∙ i) r)) ∙ p)
-      b o g
+    (λ d n x p r. ap (λ z. slice_get z.waits u) (effect-act out d n x) ∙ told-other (act_at out d x).due d.waits u (untold d (act_at out d x) n x u (scene out d n x u (ap is_idle p ∙ i) r)) ∙ p)
+    b o g
 
 settle-lasts : (out : OutcomeOf) (b : Board) → IsOrderly b → Lasts b (settle out b)
 settle-lasts out b o =
     settle-keeps (Lasts b) out
-      (λ d n x p r. lasts-trans b d (effect out d n x x.work) p
-        (subst (Lasts d) (sym (effect-act out d n x)) (lasts-after d (act_at out d x) n x r.at (pending-open x.stage (free-pending d.entries n x r.free)))))
-      b o (lasts-same b b refl (omega arith) (omega arith))
+    (λ d n x p r. lasts-trans b d (effect out d n x x.work) p
+    (subst (Lasts d) (sym (effect-act out d n x)) (lasts-after d (act_at out d x) n x r.at (pending-open x.stage (free-pending d.entries n x r.free)))))
+    b o (lasts-same b b refl (omega arith) (omega arith))
 
 finished_is : (o : Option Waits) → has_finished o ≡ true → (x : ℤ) × (o ≡ Some (Finished x))
 finished_is (Some (Finished x)) h = (x, refl)
@@ -144,11 +143,11 @@ settle-finished out b v o h =
 
 -- a thread whose wait is over may hear of it before the board settles
 pub over-told : (out : OutcomeOf) (b : Board) (u : ℕ) (w : Waits) → IsOrderly b → slice_get b.waits u ≡ Some w → once_heard (given b w) ≡ NoWait → caught_up out (await b u NoWait) ≡ caught_up out b
-unfolding hg
+unfolding told_all
 over-told out b u w o g h =
     let i = over_idle b w h in
-    ap hg (await-settle out b u NoWait o (ap is_idle g ∙ i))
-    ∙ hg-told (settle out b) u w (settle-still out b u w o i g) (over_lasts b (settle out b) u w o (settle-lasts out b o) (λ v f. settle-finished out b v o f) g h)
+    ap told_all (await-settle out b u NoWait o (ap is_idle g ∙ i))
+    ∙ told_all-one (settle out b) u w (settle-still out b u w o i g) (over_lasts b (settle out b) u w o (settle-lasts out b o) (λ v f. settle-finished out b v o f) g h)
 
 -- ---- a step
 
@@ -213,14 +212,14 @@ went-told out d u t w r q a ne i g =
 same_told : (d : Board) (u : ℕ) (w : Waits) → slice_get d.waits u ≡ Some w → await d u w ≡ d
 same_told d u w g = ap (λ l. let c : Board = record d { waits = l } in c) (set-same d.waits u w g)
 
-one_told : (out : OutcomeOf) (d : Board) (u t : ℕ) (w : Waits) (q : Ask) → Asking d t q → slice_get d.waits u ≡ Some w → once_heard (given d w) ≡ NoWait → hg (went out t q (await d u NoWait)) ≡ hg (went out t q d)
+one_told : (out : OutcomeOf) (d : Board) (u t : ℕ) (w : Waits) (q : Ask) → Asking d t q → slice_get d.waits u ≡ Some w → once_heard (given d w) ≡ NoWait → told_all (went out t q (await d u NoWait)) ≡ told_all (went out t q d)
 one_told out d u t w q a g h = elim (cases_eq u t) [
-  | inl e ↦ ap (λ z. hg (went out t q z)) (same_told d u NoWait (ap (slice_get d.waits) e ∙ a.ready))
+  | inl e ↦ ap (λ z. told_all (went out t q z)) (same_told d u NoWait (ap (slice_get d.waits) e ∙ a.ready))
   | inr ne ↦
-    let i = over_idle d w h in
-    let c = went out t q d in
-    ap hg (went-told out d u t w NoWait q a ne i g)
-    ∙ hg-told c u w (went-still out d u t w q a ne i g) (over_lasts d c u w a.orderly (went-lasts out d t q a) (λ v f. went-finished out d t q v a f) g h)
+      let i = over_idle d w h in
+      let c = went out t q d in
+      ap told_all (went-told out d u t w NoWait q a ne i g)
+      ∙ told_all-one c u w (went-still out d u t w q a ne i g) (over_lasts d c u w a.orderly (went-lasts out d t q a) (λ v f. went-finished out d t q v a f) g h)
 ]
 
 clear_told : (d : Board) (u : ℕ) (w : Waits) (q : Ask) → is_clear d q ≡ true → is_clear (await d u w) q ≡ true
@@ -233,9 +232,12 @@ ready_told xs u t g = elim (cases_eq t u) [
   | inr ne ↦ get-set_other xs u t NoWait ne ∙ g
 ]
 
+pub orderly-told : (b : Board) (t : ℕ) → IsOrderly b → is_idle (slice_get b.waits t) ≡ true → IsOrderly (await b t NoWait)
+orderly-told b t o i = orderly-same b (await b t NoWait) refl (buffers-stay b.buffers) (waits-set b (await b t NoWait) t NoWait refl (omega arith) i refl) o
+
 asking_told : (d : Board) (u t : ℕ) (w : Waits) (q : Ask) → Asking d t q → slice_get d.waits u ≡ Some w → is_idle (Some w) ≡ true → Asking (await d u NoWait) t q
 asking_told d u t w q a g i = record {
-  orderly = orderly-same d (await d u NoWait) refl (buffers-stay d.buffers) (waits-set d (await d u NoWait) u NoWait refl (omega arith) (ap is_idle g ∙ i) refl) a.orderly;
+  orderly = orderly-told d u a.orderly (ap is_idle g ∙ i);
   ready = ready_told d.waits u t a.ready;
   clear = clear_told d u NoWait q a.clear;
 }
@@ -254,8 +256,8 @@ hear_upto c (suc k) = hear_one (hear_upto c k) k (slice_get (hear_upto c k).wait
 record Chain (out : OutcomeOf) (t : ℕ) (q : Ask) (c d : Board) (k : ℕ) : Type 0 where
   asking : Asking d t q
   threads : length d.waits ≡ length c.waits
-  alike : hg d ≡ hg c
-  goes : hg (went out t q d) ≡ hg (went out t q c)
+  alike : told_all d ≡ told_all c
+  goes : told_all (went out t q d) ≡ told_all (went out t q c)
   past : (j : ℕ) (w : Waits) → j < k → slice_get d.waits j ≡ Some w → once_heard (given d w) ≡ w
 
 over_or : (v : Bool) (w : Waits) → once_heard w ≡ w → (once_heard (if v then Due Answered else w) ≡ w) ⊎ (once_heard (if v then Due Answered else w) ≡ NoWait)
@@ -293,12 +295,12 @@ chain_told out t q c d k w g h f =
     record {
       asking = asking_told d k t w q f.asking g (over_idle d w h);
       threads = length-set d.waits k NoWait ∙ f.threads;
-      alike = hg-told d k w g h ∙ f.alike;
+      alike = told_all-one d k w g h ∙ f.alike;
       goes = one_told out d k t w q f.asking g h ∙ f.goes;
       past = λ j x lt i. elim (cases_eq j k) [
         | inl e ↦
-          let is : NoWait ≡ x = set_is d.waits k NoWait x (ap (slice_get (set d.waits k NoWait)) (sym e) ∙ i) in
-          subst (λ y. once_heard (given (await d k NoWait) y) ≡ y) is refl
+            let is : NoWait ≡ x = set_is d.waits k NoWait x (ap (slice_get (set d.waits k NoWait)) (sym e) ∙ i) in
+            subst (λ y. once_heard (given (await d k NoWait) y) ≡ y) is refl
         | inr ne ↦ ap once_heard (given_told d k x u) ∙ f.past j x (below j k ne lt) (sym (get-set_other d.waits k j NoWait ne) ∙ i)
       ];
     }
@@ -321,18 +323,18 @@ map_fixed : (f : Waits → Waits) (xs : List Waits) → ((j : ℕ) (w : Waits) �
 map_fixed f [] h = refl
 map_fixed f (x ∷ xs) h = ap (λ y. y ∷ map once_heard (map f xs)) (h 0 x refl) ∙ ap (λ l. x ∷ l) (map_fixed f xs (λ j w g. h (suc j) w g))
 
-hg-fixed : (d : Board) → ((j : ℕ) (w : Waits) → slice_get d.waits j ≡ Some w → once_heard (given d w) ≡ w) → hg d ≡ d
-unfolding hg give_all
-hg-fixed d h = ap (λ l. let c : Board = record d { waits = l } in c) (map_fixed (given d) d.waits h)
+told_all-fixed : (d : Board) → ((j : ℕ) (w : Waits) → slice_get d.waits j ≡ Some w → once_heard (given d w) ≡ w) → told_all d ≡ d
+unfolding told_all give_all
+told_all-fixed d h = ap (λ l. let c : Board = record d { waits = l } in c) (map_fixed (given d) d.waits h)
 
 -- where all have heard at once the ask comes to the same
-all_told : (out : OutcomeOf) (t : ℕ) (q : Ask) (c : Board) → Asking c t q → hg (went out t q (hg c)) ≡ hg (went out t q c)
+all_told : (out : OutcomeOf) (t : ℕ) (q : Ask) (c : Board) → Asking c t q → told_all (went out t q (told_all c)) ≡ told_all (went out t q c)
 all_told out t q c a =
     let n = length c.waits in
     let d = hear_upto c n in
     let f = chain_upto out t q c n a in
-    let fixed : hg d ≡ d = hg-fixed d (λ j w g. f.past j w (let lt = slice_get_within d.waits j w g in let e = f.threads in omega arith) g) in
-    ap (λ z. hg (went out t q z)) (sym f.alike ∙ fixed) ∙ f.goes
+    let fixed : told_all d ≡ d = told_all-fixed d (λ j w g. f.past j w (let lt = slice_get_within d.waits j w g in let e = f.threads in omega arith) g) in
+    ap (λ z. told_all (went out t q z)) (sym f.alike ∙ fixed) ∙ f.goes
 
 went-settle : (out : OutcomeOf) (b : Board) (t : ℕ) (q : Ask) → Asking b t q → went out t q (settle out b) ≡ went out t q b
 unfolding went
@@ -349,7 +351,7 @@ settle-asking out b t q a = record {
 }
 
 pub step-lagging : (out : OutcomeOf) (b : Board) (t : ℕ) (q : Ask) → IsOrderly b → slice_get b.waits t ≡ Some NoWait → is_clear b q ≡ true → heard (turn out (caught_up out b) t q) ≡ heard (turn out b t q)
-unfolding turn hg went
+unfolding turn told_all went
 step-lagging out b t q o r k =
     let a : Asking b t q = record { orderly = o; ready = r; clear = k } in
-    all_told out t q (settle out b) (settle-asking out b t q a) ∙ ap hg (went-settle out b t q a)
+    all_told out t q (settle out b) (settle-asking out b t q a) ∙ ap told_all (went-settle out b t q a)

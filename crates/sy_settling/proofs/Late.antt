@@ -1,5 +1,5 @@
 -- An ask before settling and after it.
-use Rattle.std.proofs.Common.{◌≡◌, ℕ, zero, suc, List, [], ◌∷◌, length, Bool, true, false, Option, Some, None, refl, sym, ap, ◌∙◌, subst, inl, inr}
+use Rattle.std.proofs.Common.{◌≡◌, ℕ, zero, suc, List, [], ◌∷◌, length, true, false, Option, Some, None, refl, sym, ap, ◌∙◌, subst, inl, inr}
 use Rattle.std.specs.Prelude.{slice_get, not, ◌&&◌}
 use Rattle.std.specs.List.{list_any}
 use Rattle.std.proofs.lemmas.Bool.{cases_Bool}
@@ -17,7 +17,7 @@ use Rattle.sy_onecopy.specs.Settle.{await, with_stage, effect, settle_entry, set
 use Rattle.sy_onecopy.specs.Step.{apply, begun, is_node_on}
 use Rattle.sy_onecopy.specs.Sequence.{is_clear, has_open_node_on}
 use Rattle.sy_settling.specs.Orderly.{IsAt, is_idle, IsOrderly, MayAsk}
-use Rattle.sy_settling.proofs.Lists.{or_left, or_right, or_false, some_is}
+use Rattle.sy_settling.proofs.Lists.{or_left, or_right, or_false, some_is, not_true, no_left}
 use Rattle.sy_settling.proofs.Acts.{Act, told-other, after}
 use Rattle.sy_settling.proofs.Free.{free-pending}
 use Rattle.sy_settling.proofs.Kept.{act_at, act_at-acts, act_at-seen, effect-act, Ready}
@@ -37,28 +37,21 @@ idle-effect out b k e t i r =
     ∙ ap is_idle (told-other a.due b.waits t (untold b a k e t (scene out b k e t i r)))
     ∙ i
 
-no_first : (v w : Bool) → v ≡ false → (v && w) ≡ false
-no_first v w h = ap (λ u. u && w) h
-
 clear-changed : (q : ℕ) (s : Stage) (k : ℕ) (xs : List Entry) (e : Entry) → IsAt xs k e → is_node_on q e.work ≡ false → has_open_node_on xs q ≡ false → has_open_node_on (changed_at (with_stage s) k xs) q ≡ false
 unfolding has_open_node_on
 clear-changed q s k [] e g n h = refl
 clear-changed q s zero (x ∷ xs) e g n h =
     let at : is_node_on q x.work ≡ false = ap (λ (y : Entry). is_node_on q y.work) (some_is g) ∙ n in
-    or_false (is_node_on q x.work && not (is_done s)) (list_any (λ y. is_node_on q y.work && not (is_done y.stage)) xs) (no_first (is_node_on q x.work) (not (is_done s)) at)
+    or_false (is_node_on q x.work && not (is_done s)) (list_any (λ y. is_node_on q y.work && not (is_done y.stage)) xs) (no_left (is_node_on q x.work) (not (is_done s)) at)
     (or_right (is_node_on q x.work && not (is_done x.stage)) (list_any (λ y. is_node_on q y.work && not (is_done y.stage)) xs) h)
 clear-changed q s (suc k) (x ∷ xs) e g n h =
     let rest = list_any (λ y. is_node_on q y.work && not (is_done y.stage)) xs in
     let first = is_node_on q x.work && not (is_done x.stage) in
     or_false first (list_any (λ y. is_node_on q y.work && not (is_done y.stage)) (changed_at (with_stage s) k xs)) (or_left first rest h) (clear-changed q s k xs e g n (or_right first rest h))
 
-no_not : (v : Bool) → not v ≡ true → v ≡ false
-no_not true h = sym h
-no_not false h = refl
-
 clear-after : (b : Board) (a : Act) (k : ℕ) (e : Entry) (t : ℕ) (q : Ask) → Scene b a k e t → is_clear b q ≡ true → is_clear (after a k b) q ≡ true
 clear-after b a k e t (ThrowQueue q) s h =
-    let c = no_not (has_open_node_on b.entries q) h in
+    let c = not_true (has_open_node_on b.entries q) h in
     ap not (clear-changed q a.stage k b.entries e s.acts.at (off_queue q k b.entries e s.acts.at s.acts.undone c) c)
 clear-after b a k e t q s h = refl
 
@@ -107,8 +100,8 @@ marked_found : (out : OutcomeOf) (f : ℕ → ℕ) (b : Board) (n t : ℕ) (w : 
 marked_found out f b n t w None g o i = entry-none out (marked f b t w) n ∙ ap (λ z. marked f z t w) (sym (entry-none out b n))
 marked_found out f b n t w (Some x) g o i = elim (cases_Bool (is_free b.entries n x)) [
   | inl v ↦
-    entry-free out (marked f b t w) n x true v ∙ marked-effect out f b n x t w i (record { orderly = o; at = g; free = v })
-    ∙ ap (λ z. marked f z t w) (sym (entry-free out b n x true v))
+      entry-free out (marked f b t w) n x true v ∙ marked-effect out f b n x t w i (record { orderly = o; at = g; free = v })
+      ∙ ap (λ z. marked f z t w) (sym (entry-free out b n x true v))
   | inr v ↦ entry-free out (marked f b t w) n x false v ∙ ap (λ z. marked f z t w) (sym (entry-free out b n x false v))
 ]
 

@@ -158,6 +158,24 @@ and_right false b h = absurd cc
 pub and_true : (a b : Bool) → a ≡ true → b ≡ true → (a && b) ≡ true
 and_true a b p q = ap (λ t. t && b) p ∙ q
 
+pub no_left : (a b : Bool) → a ≡ false → (a && b) ≡ false
+no_left a b h = ap (λ t. t && b) h
+
+pub no_right : (a b : Bool) → b ≡ false → (a && b) ≡ false
+no_right true b h = h
+no_right false b h = refl
+
+pub or_true : (a b : Bool) → b ≡ true → (a || b) ≡ true
+or_true true b h = refl
+or_true false b h = h
+
+pub or_rest : (a b : Bool) → a ≡ false → (a || b) ≡ true → b ≡ true
+or_rest a b e h = ap (λ t. t || b) (sym e) ∙ h
+
+pub or_start : (a b : Bool) → b ≡ false → (a || b) ≡ true → a ≡ true
+or_start true b e h = refl
+or_start false b e h = sym e ∙ h
+
 pub not_true : (a : Bool) → not a ≡ true → a ≡ false
 not_true true h = absurd cc
 not_true false h = refl

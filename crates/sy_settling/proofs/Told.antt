@@ -1,5 +1,5 @@
 -- A thread told something before another thread's ask and after it.
-use Rattle.std.proofs.Common.{◌≡◌, ◌≢◌, ℕ, zero, suc, ◌+◌, ◌-◌, ◌<◌, ◌≤◌, ℤ, List, [], ◌∷◌, ◌++◌, length, set, Bool, true, false, Option, Some, None, refl, sym, ap, ◌∙◌}
+use Rattle.std.proofs.Common.{◌≡◌, ◌≢◌, ℕ, suc, ◌+◌, ◌-◌, ◌<◌, ℤ, List, [], ◌∷◌, ◌++◌, length, set, Bool, true, false, Option, Some, None, refl, sym, ap, ◌∙◌}
 use Rattle.std.specs.Prelude.{◌^◌, slice_get, if◌then◌else◌, ◌&&◌, ◌==◌, nat_lt, nat_le}
 use Rattle.std.proofs.lemmas.List.{set-append_left, length-set}
 use Rattle.sy_access.specs.declared.access.Need.{Need}
@@ -7,7 +7,7 @@ use Rattle.sy_access.specs.Needs.{writes}
 use Rattle.sy_range.specs.LinearIds.{product}
 use Rattle.sy_work.specs.declared.asks.Ask.{Ask}
 use Rattle.sy_work.specs.declared.asks.Ask.TheVariants.{Print, MakeBuffer, MakeSub, EndBuffer, OpenHost, CloseHost, MakeContext, MakeQueue, Submit, WaitNode, WaitQueue, ThrowQueue, Spawn, Join, Finish, Halt, Barrier, Collect}
-use Rattle.sy_work.specs.declared.asks.Answer.TheVariants.{Done as Answered, Number, Refused}
+use Rattle.sy_work.specs.declared.asks.Answer.TheVariants.{Done as Answered, Number}
 use Rattle.sy_work.specs.declared.asks.NewBuffer.{NewBuffer}
 use Rattle.sy_work.specs.declared.asks.NewQueue.{NewQueue}
 use Rattle.sy_work.specs.declared.asks.Submission.{Submission}
@@ -22,11 +22,10 @@ use Rattle.sy_onecopy.specs.declared.Entry.{Entry}
 use Rattle.sy_onecopy.specs.declared.Stage.{Stage}
 use Rattle.sy_onecopy.specs.declared.Stage.TheVariants as stage
 use Rattle.sy_onecopy.specs.declared.Waits.{Waits}
-use Rattle.sy_onecopy.specs.declared.Waits.TheVariants.{Due, Ready as NoWait, OnEntry, OnNode, OnQueue, OnThread, Finished}
-use Rattle.sy_onecopy.specs.Each.{each_from}
+use Rattle.sy_onecopy.specs.declared.Waits.TheVariants.{Ready as NoWait, OnThread, Finished}
 use Rattle.sy_onecopy.specs.State.{Board}
 use Rattle.sy_onecopy.specs.Settle.{await, reply, to_stage}
-use Rattle.sy_onecopy.specs.Step.{stop, printed, made_buffer, add_buffer, made_part, mark_ended, add_entry, end_entry, end_root, end_buffer, opened_host, access_entry, accesses, access_from, buffer_put, put_back, closed, close_entry, close_at, close_found, made_context, made_queue, add_queue, add_node, node_entry, submitted, wait_if, thrown, throw_queue, spawned, apply, error_on, is_root, count_of, is_root_need, has_count, live_elements, holds_together, new_buffer, part_buffer}
+use Rattle.sy_onecopy.specs.Step.{stop, printed, made_buffer, made_part, mark_ended, add_entry, end_entry, end_root, end_buffer, opened_host, access_entry, accesses, access_from, put_back, closed, close_entry, close_at, close_found, made_context, made_queue, add_node, node_entry, submitted, wait_if, thrown, throw_queue, spawned, apply, error_on, is_root, count_of, is_root_need, has_count, live_elements, holds_together, new_buffer, part_buffer}
 use Rattle.sy_settling.proofs.Lists.{set-swap}
 
 -- two threads
@@ -42,14 +41,14 @@ made_buffer-told : (b : Board) (u t : ℕ) (w : Waits) (m : NewBuffer) → u ≢
 unfolding made_buffer
 made_buffer-told b u t w m ne =
     pick (has_count (product m.range) m.init) u w _ b _ (await b u w)
-      (pick (nat_le (live_elements b.buffers + product m.range) (2 ^ 22)) u w _ _ _ _ (awaits-swap (record b { buffers = b.buffers ++ new_buffer m ∷ [] }) u t w _ ne) (awaits-swap b u t w _ ne))
-      refl
+    (pick (nat_le (live_elements b.buffers + product m.range) (2 ^ 22)) u w _ _ _ _ (awaits-swap (record b { buffers = b.buffers ++ new_buffer m ∷ [] }) u t w _ ne) (awaits-swap b u t w _ ne))
+    refl
 
 made_part-told : (b : Board) (u t : ℕ) (w : Waits) (r base n : ℕ) → u ≢ t → made_part (await b u w) t r base n ≡ await (made_part b t r base n) u w
 unfolding made_part
 made_part-told b u t w r base n ne =
     pick (is_root (slice_get b.buffers r) && nat_le (base + n) (count_of (slice_get b.buffers r))) u w _ b _ (await b u w)
-      (awaits-swap (record b { buffers = b.buffers ++ part_buffer ∷ [] }) u t w _ ne) refl
+    (awaits-swap (record b { buffers = b.buffers ++ part_buffer ∷ [] }) u t w _ ne) refl
 
 printed-told : (b : Board) (u t : ℕ) (w : Waits) (bytes : List ℕ) → u ≢ t → printed (await b u w) t bytes ≡ await (printed b t bytes) u w
 unfolding printed
@@ -80,8 +79,8 @@ closed-told : (b : Board) (u t : ℕ) (w : Waits) (values : List ℤ) (j : ℕ) 
 unfolding closed
 closed-told b u t w values j n ne =
     pick (length values == n.to - n.from) u w _ b _ (await b u w)
-      (ap (λ z. reply (to_stage z j stage.Done) t Answered) (put_back-told b u w n values) ∙ awaits-swap (to_stage (put_back b n values) j stage.Done) u t w _ ne)
-      refl
+    (ap (λ z. reply (to_stage z j stage.Done) t Answered) (put_back-told b u w n values) ∙ awaits-swap (to_stage (put_back b n values) j stage.Done) u t w _ ne)
+    refl
 
 close_entry-told : (b : Board) (u t : ℕ) (w : Waits) (values : List ℤ) (j : ℕ) (s : Stage) (ns : List Need) → u ≢ t → close_entry (await b u w) t values j s ns ≡ await (close_entry b t values j s ns) u w
 unfolding close_entry
@@ -110,7 +109,7 @@ made_queue-told : (b : Board) (u t : ℕ) (w : Waits) (m : NewQueue) → u ≢ t
 unfolding made_queue
 made_queue-told b u t w m ne =
     pick (nat_lt 0 m.context && nat_lt m.context b.places) u w _ b _ (await b u w)
-      (awaits-swap (record b { queues = b.queues ++ record { place = m.context; in_order = m.in_order } ∷ [] }) u t w _ ne) refl
+    (awaits-swap (record b { queues = b.queues ++ record { place = m.context; in_order = m.in_order } ∷ [] }) u t w _ ne) refl
 
 holds-told : (b : Board) (u : ℕ) (w : Waits) (m : Submission) → holds_together (await b u w) m ≡ holds_together b m
 unfolding holds_together
@@ -142,10 +141,10 @@ spawned-told b u t w ne lt =
     let grow = λ (l : List Waits) (i : ℕ). (let c : Board = reply (record b { waits = l }) t (Number i) in c) in
     ap (λ i. if nat_lt i 64 then reply (record b { waits = set b.waits u w ++ NoWait ∷ [] }) t (Number (length (set b.waits u w))) else stop (await b u w) (Terminated Threads)) n
     ∙ pick (nat_lt (length b.waits) 64) u w _ _ _ _
-        (ap (grow (set b.waits u w ++ NoWait ∷ [])) n
-        ∙ ap (λ l. grow l (length b.waits)) (sym (set-append_left b.waits (NoWait ∷ []) u w lt))
-        ∙ awaits-swap (record b { waits = b.waits ++ NoWait ∷ [] }) u t w _ ne)
-        refl
+    (ap (grow (set b.waits u w ++ NoWait ∷ [])) n
+    ∙ ap (λ l. grow l (length b.waits)) (sym (set-append_left b.waits (NoWait ∷ []) u w lt))
+    ∙ awaits-swap (record b { waits = b.waits ++ NoWait ∷ [] }) u t w _ ne)
+    refl
 
 -- a thread that doesn't ask is told the same before the ask's effect and after it
 pub apply-told : (b : Board) (u t : ℕ) (w : Waits) (q : Ask) → u ≢ t → u < length b.waits → apply (await b u w) t q ≡ await (apply b t q) u w

@@ -58,6 +58,7 @@ pub fn order_is_kept()
     ensures asked { (b : Board) (t : ℕ) (q : Ask) → IsOrderly b → MayAsk b t q → IsOrderly (apply b t q) }
     ensures given { (b : Board) → IsOrderly b → IsOrderly (give_all b) }
     ensures heard { (b : Board) → IsOrderly b → IsOrderly (heard b) }
+    ensures told { (b : Board) (t : ℕ) → IsOrderly b → is_idle (slice_get b.waits t) ≡ true → IsOrderly (await b t Ready) }
 {}
 
 /// The states of legal orders have what the laws above ask for.

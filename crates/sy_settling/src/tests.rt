@@ -1,6 +1,6 @@
 use crate::laws::{
-    effects_commute_with_asks, effects_commute_with_settling, lagging_boards_keep_step, legal_orders_are_orderly,
-    one_effect_then_settling, order_is_kept, settling_keeps,
+    effects_commute_with_asks, effects_commute_with_settling, lagging_boards_keep_step,
+    legal_orders_are_orderly, one_effect_then_settling, order_is_kept, settling_keeps,
 };
 
 #[test]

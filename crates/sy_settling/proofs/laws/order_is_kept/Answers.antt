@@ -2,6 +2,7 @@ use Rattle.sy_settling.proofs.Kept.{orderly-effect}
 use Rattle.sy_settling.proofs.Settling.{orderly-settle}
 use Rattle.sy_settling.proofs.Late.{may_ask-effect}
 use Rattle.sy_settling.proofs.Orders.{orderly-opening, orderly-begun, orderly-apply, orderly-give, orderly-heard}
+use Rattle.sy_settling.proofs.Lagging.{orderly-told}
 use Rattle.sy_settling.proofs.laws.order_is_kept.Goals as goal
 
 pub returns-clause-opening : goal.returns-clause-opening
@@ -27,3 +28,6 @@ returns-clause-given c = orderly-give
 
 pub returns-clause-heard : goal.returns-clause-heard
 returns-clause-heard c = orderly-heard
+
+pub returns-clause-told : goal.returns-clause-told
+returns-clause-told c = orderly-told
