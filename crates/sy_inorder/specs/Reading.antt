@@ -1,0 +1,28 @@
+-- Entries that only read.
+use Rattle.std.specs.Prelude.{◌≡◌, ℕ, Bool, true, false, not, ◌||◌, List, [], take, Some, None, Option, slice_get}
+use Rattle.std.specs.List.{list_any, list_all}
+use Rattle.sy_access.specs.declared.access.Need.{Need}
+use Rattle.sy_access.specs.Needs.{writes}
+use Rattle.sy_onecopy.specs.declared.Entry.{Entry}
+use Rattle.sy_onecopy.specs.Before.{is_done, meet}
+
+-- no need writes
+unfoldable pub only_reads : List Need → Bool
+only_reads needs = list_all (λ n. not (writes n.mode)) needs
+
+-- the entry is done, or only reads
+abbrev pub lets_read : Entry → Bool
+lets_read e = is_done e.stage || only_reads e.needs
+
+-- each of the entries is done, or only reads
+unfoldable pub all_let_read : List Entry → Bool
+all_let_read entries = list_all lets_read entries
+
+-- the entry is done, or has no need that meets one of y
+unfoldable pub all_keep_off : Entry → List Entry → Bool
+all_keep_off y entries = list_all (λ x. is_done x.stage || not (meet x y)) entries
+
+-- the entry names no node, and is in no in-order queue
+pub record IsLoose (e : Entry) : Type 0 where
+  pub names_none : e.after ≡ []
+  pub unordered : e.in_order ≡ None
