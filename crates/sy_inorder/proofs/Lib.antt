@@ -1,2 +1,4 @@
 pub mod Bools
+pub mod Places
+pub mod Changes
 pub mod Readers
