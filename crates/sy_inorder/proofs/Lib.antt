@@ -1,4 +1,5 @@
 pub mod Bools
 pub mod Places
 pub mod Changes
+pub mod Cells
 pub mod Readers
