@@ -2,4 +2,5 @@ pub mod Bools
 pub mod Places
 pub mod Changes
 pub mod Cells
+pub mod Told
 pub mod Readers
