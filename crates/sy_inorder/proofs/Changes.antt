@@ -36,18 +36,21 @@ use Rattle.sy_inorder.proofs.Bools.{and_first, and_second}
 use Rattle.sy_inorder.proofs.Places.{changed_get}
 
 -- each need names one of so many buffers
-pub AreNamed : ℕ → List Need → Type 0
+unfoldable pub AreNamed : ℕ → List Need → Type 0
 AreNamed count [] = Unit {0}
 AreNamed count (n ∷ ns) = (n.buffer < count) × AreNamed count ns
 
+abbrev pub all_of : ℕ → ℕ → Need
+all_of r n = record { buffer = r; mode = ReadWrite; no_init = false; from = 0; to = n }
+
 -- the end of a buffer has one need, of all its elements
-pub Fits : List Buffer → Work → List Need → Type 0
-Fits bs (End t r) needs = needs ≡ record { buffer = r; mode = ReadWrite; no_init = false; from = 0; to = length (values_at bs r) } ∷ []
+unfoldable pub Fits : List Buffer → Work → List Need → Type 0
+Fits bs (End t r) needs = needs ≡ all_of r (length (values_at bs r)) ∷ []
 Fits bs (Node n q c) needs = Unit {0}
 Fits bs (Access t i) needs = Unit {0}
 
 -- a host access names no node, and is in no queue
-pub StandsAlone : Work → List ℕ → Option ℕ → Type 0
+unfoldable pub StandsAlone : Work → List ℕ → Option ℕ → Type 0
 StandsAlone (Access t i) after in_order = (after ≡ []) × (in_order ≡ None)
 StandsAlone (Node n q c) after in_order = Unit {0}
 StandsAlone (End t r) after in_order = Unit {0}
@@ -98,11 +101,8 @@ is_there [] r x h = absurd (none-some x h)
 is_there (y ∷ bs) zero x h = omega arith
 is_there (y ∷ bs) (suc r) x h = let i : r < length bs = is_there bs r x h in omega arith
 
-all_of : ℕ → ℕ → Need
-all_of r n = record { buffer = r; mode = ReadWrite; no_init = false; from = 0; to = n }
-
 end_root-change : (b : Board) (t r : ℕ) (x : Buffer) (o : Origin) → slice_get b.buffers r ≡ Some x → Became b (end_root b t r x o)
-unfolding end_root AreNamed Fits StandsAlone all_of
+unfolding end_root AreNamed Fits StandsAlone
 end_root-change b t r x Vector h =
     added _ refl (record { named = (is_there b.buffers r x h, tt); fits = ap (λ o. all_of r (length (values_of o)) ∷ []) (sym h); alone = tt }) refl (ended-numbers r b.buffers) refl
 end_root-change b t r x Range h = quiet refl (ended-numbers r b.buffers) refl

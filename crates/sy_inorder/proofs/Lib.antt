@@ -3,4 +3,5 @@ pub mod Places
 pub mod Changes
 pub mod Cells
 pub mod Told
+pub mod Kept
 pub mod Readers

@@ -3,7 +3,9 @@ use Rattle.std.proofs.Common.{◌≡◌, ℕ, zero, suc, ◌+◌, ◌<◌, ◌�
 use Rattle.std.specs.Prelude.{slice_get, not, ◌&&◌, ◌||◌, if◌then◌else◌, option_map}
 use Rattle.std.specs.List.{list_any}
 use Rattle.std.proofs.lemmas.Option.{same_Some, none-some}
+use Rattle.std.proofs.lemmas.Bool.Decides.{nat_tests}
 use Rattle.sy_access.specs.declared.access.Need.{Need}
+use Rattle.sy_access.specs.Needs.{has_cell, writes}
 use Rattle.sy_work.specs.Programs.{OutcomeOf, Input}
 use Rattle.sy_onecopy.specs.declared.Buffer.{Buffer}
 use Rattle.sy_onecopy.specs.declared.Entry.{Entry}
@@ -11,9 +13,11 @@ use Rattle.sy_onecopy.specs.declared.Work.{Work}
 use Rattle.sy_onecopy.specs.declared.Stage.{Stage}
 use Rattle.sy_onecopy.specs.Each.{each_from, changed_at}
 use Rattle.sy_onecopy.specs.Before.{meet, is_done}
-use Rattle.sy_onecopy.specs.Outcome.{is_written, inputs, run_of, values_at, values_of}
+use Rattle.sy_onecopy.specs.Outcome.{is_written, writes_at, inputs, run_of, values_at, values_of}
 use Rattle.sy_onecopy.specs.Settle.{with_stage}
 use Rattle.sy_inorder.specs.Story.{after_work, numbers_of, some_has, element, Telling, told, story, is_over, is_any}
+use Rattle.sy_inorder.proofs.Bools.{or_false}
+use Rattle.sy_inorder.proofs.Places.{get_front}
 use Rattle.sy_inorder.proofs.Changes.{AreNamed}
 use Rattle.sy_inorder.proofs.Cells.{CellChange, over, over_one, one_kept, values_over, cell_by, after-over, after-swap, after-left, by_spares, same_inputs}
 
@@ -184,3 +188,54 @@ pub row_after : (out : OutcomeOf) (given : List ℤ) (needs : List Need) (w : Wo
 row_after out given needs w bs r =
     let f = cell_by out given needs w (inputs bs needs) in
     ap (λ l. length (values_at l r)) (after-over out given needs w bs) ∙ ap length (values_over f bs r) ∙ length_each (f r) 0 (values_at bs r)
+
+each_more : {A : Type 0} (f : ℕ → A → A) (k : ℕ) (xs : List A) (x : A) → each_from f k (xs ++ x ∷ []) ≡ each_from f k xs ++ f (k + length xs) x ∷ []
+each_more f k [] x = ap (λ j. f j x ∷ []) (let e : k ≡ k + 0 = omega arith in e)
+each_more f k (y ∷ xs) x = ap (λ l. f k y ∷ l) (each_more f (suc k) xs x ∙ ap (λ j. each_from f (suc k) xs ++ f j x ∷ []) (let e : suc k + length xs ≡ k + suc (length xs) = omega arith in e))
+
+not_there : (n : Need) (b i : ℕ) → n.buffer < b → has_cell n b i ≡ false
+unfolding has_cell
+not_there n b i h = grind (arith, nat_tests)
+
+named_spare : (needs : List Need) (count i : ℕ) → AreNamed count needs → is_written needs count i ≡ false
+unfolding AreNamed is_written
+named_spare [] count i h = refl
+named_spare (n ∷ ns) count i h =
+    or_false (has_cell n count i && writes n.mode) (list_any (writes_at count i) ns) (ap (λ v. v && writes n.mode) (not_there n count i h.0)) (named_spare ns count i h.1)
+
+pub named_at : (needs : List Need) (count k : ℕ) (n : Need) → AreNamed count needs → slice_get needs k ≡ Some n → n.buffer < count
+unfolding AreNamed
+named_at [] count k n h g = absurd (none-some n g)
+named_at (m ∷ ns) count zero n h g = subst (λ z. z.buffer < count) (same_Some m n g) h.0
+named_at (m ∷ ns) count (suc k) n h g = named_at ns count k n h.1 g
+
+pub wider_rows : (bs : List Buffer) (x : Buffer) (r : ℕ) → r < length bs → values_at (bs ++ x ∷ []) r ≡ values_at bs r
+wider_rows bs x r h = ap values_of (get_front bs x r h)
+
+wider_inputs : (bs : List Buffer) (x : Buffer) (needs : List Need) → AreNamed (length bs) needs → inputs (bs ++ x ∷ []) needs ≡ inputs bs needs
+wider_inputs bs x needs h = same_inputs (bs ++ x ∷ []) bs needs (λ k n g. ap (λ l. run_of l n.from n.to) (wider_rows bs x n.buffer (named_at needs (length bs) k n h g)))
+
+after_wider : (out : OutcomeOf) (given : List ℤ) (needs : List Need) (w : Work) (bs : List Buffer) (x : Buffer) → AreNamed (length bs) needs → after_work out given needs w (bs ++ x ∷ []) ≡ after_work out given needs w bs ++ x ∷ []
+after_wider out given needs w bs x h =
+    let f = cell_by out given needs w (inputs bs needs) in
+    after-over out given needs w (bs ++ x ∷ [])
+    ∙ ap (λ i. over (cell_by out given needs w i) (bs ++ x ∷ [])) (wider_inputs bs x needs h)
+    ∙ each_more (over_one f) 0 bs x
+    ∙ ap (λ j. over f bs ++ over_one f j x ∷ []) (let e : 0 + length bs ≡ length bs = omega arith in e)
+    ∙ ap (λ y. over f bs ++ y ∷ []) (one_kept f (length bs) x (λ i v. by_spares out given needs w (inputs bs needs) (length bs) i v (named_spare needs (length bs) i h)))
+    ∙ ap (λ l. l ++ x ∷ []) (sym (after-over out given needs w bs))
+
+wider_by : (v : Bool) (s : Telling) (k : ℕ) (e : Entry) (bs : List Buffer) (x : Buffer) → AreNamed (length bs) e.needs → (if v then after_work s.out (s.given k) e.needs e.work (bs ++ x ∷ []) else bs ++ x ∷ []) ≡ (if v then after_work s.out (s.given k) e.needs e.work bs else bs) ++ x ∷ []
+wider_by true s k e bs x h = after_wider s.out (s.given k) e.needs e.work bs x h
+wider_by false s k e bs x h = refl
+
+length_by : (v : Bool) (s : Telling) (k : ℕ) (e : Entry) (bs : List Buffer) → length (if v then after_work s.out (s.given k) e.needs e.work bs else bs) ≡ length bs
+length_by true s k e bs = length_after s.out (s.given k) e.needs e.work bs
+length_by false s k e bs = refl
+
+-- a buffer that no entry names stands beside the story
+pub wider_story : (s : Telling) (k : ℕ) (es : List Entry) (bs : List Buffer) (x : Buffer) → ((j : ℕ) (e : Entry) → slice_get es j ≡ Some e → AreNamed (length bs) e.needs) → story s k es (bs ++ x ∷ []) ≡ story s k es bs ++ x ∷ []
+wider_story s k [] bs x h = refl
+wider_story s k (e ∷ es) bs x h =
+    ap (story s (suc k) es) (wider_by (s.tells e) s k e bs x (h 0 e refl))
+    ∙ wider_story s (suc k) es (told s k e bs) x (λ j d g. subst (λ n. AreNamed n d.needs) (sym (length_by (s.tells e) s k e bs)) (h (suc j) d g))

@@ -1,0 +1,162 @@
+-- What holds of the entries and the buffers all through a sequence of steps.
+use Rattle.std.proofs.Common.{◌≡◌, ℕ, zero, suc, ◌+◌, ◌<◌, ◌≤◌, ℤ, List, [], ◌∷◌, ◌++◌, length, take, drop, map, Bool, true, false, inl, inr, Option, Some, None, refl, sym, ap, ◌∙◌, subst, arith}
+use Rattle.std.specs.Prelude.{slice_get, not, ◌&&◌, ◌||◌, ◌==◌, nat_eq, if◌then◌else◌}
+use Rattle.std.proofs.lemmas.Option.{same_Some, none-some, slice_get_within}
+use Rattle.std.proofs.lemmas.List.{append-nil, map-append}
+use Rattle.std.proofs.lemmas.Bool.Decides.{nat_tests}
+use Rattle.sy_access.specs.declared.access.Need.{Need}
+use Rattle.sy_work.specs.Programs.{OutcomeOf}
+use Rattle.sy_onecopy.specs.declared.Buffer.{Buffer}
+use Rattle.sy_onecopy.specs.declared.Entry.{Entry}
+use Rattle.sy_onecopy.specs.declared.Work.{Work}
+use Rattle.sy_onecopy.specs.declared.Work.TheVariants.{Node, Access, End}
+use Rattle.sy_onecopy.specs.declared.Stage.{Stage}
+use Rattle.sy_onecopy.specs.declared.Stage.TheVariants.{Pending, Granted, Done, Failed}
+use Rattle.sy_onecopy.specs.Each.{changed_at}
+use Rattle.sy_onecopy.specs.Before.{before, meet, is_done, is_pending, is_named, both_on}
+use Rattle.sy_onecopy.specs.Outcome.{values_at}
+use Rattle.sy_onecopy.specs.Settle.{with_stage}
+use Rattle.sy_inorder.specs.Story.{after_work, numbers_of, story, told, is_over, is_any}
+use Rattle.sy_inorder.specs.Ledger.{Ledger, closed_with, done_in_order}
+use Rattle.sy_inorder.proofs.Bools.{or_left}
+use Rattle.sy_inorder.proofs.Places.{last_or, changed_or, WasAt}
+use Rattle.sy_inorder.proofs.Places.WasAt.{kept, changed}
+use Rattle.sy_inorder.proofs.Changes.{AreNamed, Fits, StandsAlone, IsSound, Change, all_of}
+use Rattle.sy_inorder.proofs.Changes.Change.{quiet, wider, added, shut}
+use Rattle.sy_inorder.proofs.Told.{tale, Ordered, one_more, still_open, now_done, same_rows, same_after, length_after, row_after, wider_rows, wider_story}
+
+-- no entry has left the pending ones while one before it was not done
+abbrev pub NoneOvertakes : List Entry → Type 0
+NoneOvertakes es = (i j : ℕ) (x y : Entry) → i < j → slice_get es i ≡ Some x → slice_get es j ≡ Some y → is_done x.stage ≡ false → is_pending y.stage ≡ false → before x y ≡ false
+
+pub record Holds (out : OutcomeOf) (l : Ledger) (es : List Entry) (bs : List Buffer) : Type 0 where
+  pub numbers : numbers_of bs ≡ numbers_of (done_in_order out l es)
+  pub count : length l.made ≡ length bs
+  pub none_overtakes : NoneOvertakes es
+  pub sound : (k : ℕ) (e : Entry) → slice_get es k ≡ Some e → IsSound bs e.needs e.work e.after e.in_order
+
+-- ---- what stays sound
+
+record Extends (bs cs : List Buffer) : Type 0 where
+  longer : length bs ≤ length cs
+  rows : (r : ℕ) → r < length bs → length (values_at cs r) ≡ length (values_at bs r)
+
+named_more : (m n : ℕ) (needs : List Need) → m ≤ n → AreNamed m needs → AreNamed n needs
+unfolding AreNamed
+named_more m n [] l h = tt
+named_more m n (x ∷ xs) l h = (let k = h.0 in omega (arith, k, l), named_more m n xs l h.1)
+
+whole_named : (n r m : ℕ) (needs : List Need) → needs ≡ all_of r m ∷ [] → AreNamed n needs → r < n
+unfolding AreNamed
+whole_named n r m needs e h = let p = subst (AreNamed n) e h in p.0
+
+fits_more : (bs cs : List Buffer) (w : Work) (needs : List Need) → Extends bs cs → AreNamed (length bs) needs → Fits bs w needs → Fits cs w needs
+unfolding Fits
+fits_more bs cs (Node n q c) needs x named h = tt
+fits_more bs cs (Access t i) needs x named h = tt
+fits_more bs cs (End t r) needs x named h = h ∙ ap (λ n. all_of r n ∷ []) (sym (x.rows r (whole_named (length bs) r (length (values_at bs r)) needs h named)))
+
+sound_more : (bs cs : List Buffer) (needs : List Need) (w : Work) (after : List ℕ) (in_order : Option ℕ) → Extends bs cs → IsSound bs needs w after in_order → IsSound cs needs w after in_order
+sound_more bs cs needs w after in_order x h = record {
+  named = named_more (length bs) (length cs) needs x.longer h.named;
+  fits = fits_more bs cs w needs x h.named h.fits;
+  alone = h.alone;
+}
+
+length_map : (bs : List Buffer) → length (numbers_of bs) ≡ length bs
+length_map [] = refl
+length_map (x ∷ bs) = ap suc (length_map bs)
+
+same_length : (bs cs : List Buffer) → numbers_of cs ≡ numbers_of bs → length cs ≡ length bs
+same_length bs cs h = sym (length_map cs) ∙ ap length h ∙ length_map bs
+
+same_extends : (bs cs : List Buffer) → numbers_of cs ≡ numbers_of bs → Extends bs cs
+same_extends bs cs h = record {
+  longer = let e = same_length bs cs h in omega (arith, e);
+  rows = λ r l. ap length (same_rows cs bs h r);
+}
+
+length_more : (bs : List Buffer) (x : Buffer) → length (bs ++ x ∷ []) ≡ suc (length bs)
+length_more [] x = refl
+length_more (y ∷ bs) x = ap suc (length_more bs x)
+
+wider_extends : (bs : List Buffer) (x : Buffer) → Extends bs (bs ++ x ∷ [])
+wider_extends bs x = record {
+  longer = let e = length_more bs x in omega (arith, e);
+  rows = λ r l. ap length (wider_rows bs x r l);
+}
+
+after_extends : (out : OutcomeOf) (given : List ℤ) (needs : List Need) (w : Work) (bs : List Buffer) → Extends bs (after_work out given needs w bs)
+after_extends out given needs w bs = record {
+  longer = let e = length_after out given needs w bs in omega (arith, e);
+  rows = λ r l. row_after out given needs w bs r;
+}
+
+-- ---- the steps of the invariant
+
+done_not_pending : (s : Stage) → is_done s ≡ true → is_pending s ≡ false
+done_not_pending Pending h = let z : false ≡ true = h in absurd cc
+done_not_pending Granted h = refl
+done_not_pending Done h = refl
+done_not_pending (Failed f) h = refl
+
+pub ordered : (es : List Entry) → NoneOvertakes es → Ordered es
+unfolding before
+ordered es h i j x y lt a b c d =
+    or_left (meet x y) (is_named x.work y.after || both_on x.in_order y.in_order) (h i j x y lt a b c (done_not_pending y.stage d))
+
+quiet_holds : (out : OutcomeOf) (l : Ledger) (es : List Entry) (bs cs : List Buffer) → numbers_of cs ≡ numbers_of bs → Holds out l es bs → Holds out l es cs
+quiet_holds out l es bs cs same h = record {
+  numbers = same ∙ h.numbers;
+  count = h.count ∙ sym (same_length bs cs same);
+  none_overtakes = h.none_overtakes;
+  sound = λ k e g. sound_more bs cs e.needs e.work e.after e.in_order (same_extends bs cs same) (h.sound k e g);
+}
+
+with_made : Ledger → List Buffer → Ledger
+with_made l made = record l { made = made }
+
+wider_holds : (out : OutcomeOf) (l : Ledger) (es : List Entry) (bs : List Buffer) (x : Buffer) → Holds out l es bs → Holds out (with_made l (l.made ++ x ∷ [])) es (bs ++ x ∷ [])
+unfolding with_made
+wider_holds out l es bs x h = record {
+  numbers =
+    map-append (λ (y : Buffer). y.values) bs (x ∷ [])
+    ∙ ap (λ n. n ++ x.values ∷ []) h.numbers
+    ∙ sym (map-append (λ (y : Buffer). y.values) (done_in_order out l es) (x ∷ []))
+    ∙ ap numbers_of (sym (wider_story (tale out (closed_with l.closings) is_over) 0 es l.made x (λ j e g. subst (λ n. AreNamed n e.needs) (sym h.count) (h.sound j e g).named)));
+  count = length_more l.made x ∙ ap suc h.count ∙ sym (length_more bs x);
+  none_overtakes = h.none_overtakes;
+  sound = λ k e g. sound_more bs (bs ++ x ∷ []) e.needs e.work e.after e.in_order (wider_extends bs x) (h.sound k e g);
+}
+
+not_over : (e : Entry) → is_pending e.stage ≡ true → (s : Stage) → e.stage ≡ s → is_done s ≡ false
+not_over e h Pending p = refl
+not_over e h Granted p = refl
+not_over e h Done p = let z : false ≡ true = ap is_pending (sym p) ∙ h in absurd cc
+not_over e h (Failed f) p = let z : false ≡ true = ap is_pending (sym p) ∙ h in absurd cc
+
+pub pending_open : (e : Entry) → is_pending e.stage ≡ true → is_done e.stage ≡ false
+pending_open e h = not_over e h e.stage refl
+
+added_overtakes : (es : List Entry) (e : Entry) → is_pending e.stage ≡ true → NoneOvertakes es → NoneOvertakes (es ++ e ∷ [])
+added_overtakes es e p h i j x y lt a b c d = elim (last_or es e j y b) [
+    | inr last ↦ let z : true ≡ false = sym p ∙ ap (λ k. is_pending k.stage) last.1 ∙ d in absurd cc
+    | inl old ↦ elim (last_or es e i x a) [
+        | inl older ↦ h i j x y lt older old c d
+        | inr last ↦ let n = slice_get_within es j y old in absurd (omega (arith, lt, n, last.0))
+      ]
+  ]
+
+added_holds : (out : OutcomeOf) (l : Ledger) (es : List Entry) (bs : List Buffer) (e : Entry) → is_pending e.stage ≡ true → IsSound bs e.needs e.work e.after e.in_order → Holds out l es bs → Holds out l (es ++ e ∷ []) bs
+added_holds out l es bs e p s h = record {
+  numbers =
+    h.numbers
+    ∙ ap numbers_of (sym (one_more (tale out (closed_with l.closings) is_over) 0 es e l.made
+        ∙ ap (λ v. if v then after_work out (closed_with l.closings (0 + length es)) e.needs e.work (done_in_order out l es) else done_in_order out l es) (pending_open e p)));
+  count = h.count;
+  none_overtakes = added_overtakes es e p h.none_overtakes;
+  sound = λ k x g. elim (last_or es e k x g) [
+    | inl old ↦ h.sound k x old
+    | inr last ↦ subst (λ (z : Entry). IsSound bs z.needs z.work z.after z.in_order) last.1 s
+  ];
+}
