@@ -13,7 +13,7 @@ use Rattle.sy_onecopy.specs.declared.Work.TheVariants.{Node, Access, End}
 use Rattle.sy_onecopy.specs.declared.Stage.{Stage}
 use Rattle.sy_onecopy.specs.declared.Stage.TheVariants.{Pending, Granted, Done, Failed}
 use Rattle.sy_onecopy.specs.Each.{changed_at}
-use Rattle.sy_onecopy.specs.Before.{before, meet, is_done, is_pending, is_named, both_on}
+use Rattle.sy_onecopy.specs.Before.{before, meet, meets, is_done, is_pending, is_named, both_on}
 use Rattle.sy_onecopy.specs.Outcome.{values_at}
 use Rattle.sy_onecopy.specs.Settle.{with_stage}
 use Rattle.sy_inorder.specs.Story.{after_work, numbers_of, story, told, is_over, is_any}
@@ -160,3 +160,122 @@ added_holds out l es bs e p s h = record {
     | inr last ↦ subst (λ (z : Entry). IsSound bs z.needs z.work z.after z.in_order) last.1 s
   ];
 }
+
+before_same : (s : Stage) (x y : Entry) → before x (with_stage s y) ≡ before x y
+unfolding before meet meets
+before_same s x y = refl
+
+before_same_by : (s : Stage) (x y : Entry) → before (with_stage s x) y ≡ before x y
+unfolding before meet meets
+before_same_by s x y = refl
+
+-- nothing before place k that is not done is before e
+abbrev pub NothingBefore : List Entry → ℕ → Entry → Type 0
+NothingBefore es k e = (i : ℕ) (x : Entry) → i < k → slice_get es i ≡ Some x → is_done x.stage ≡ false → before x e ≡ false
+
+changed_overtakes : (es : List Entry) (k : ℕ) (e : Entry) (s : Stage) → slice_get es k ≡ Some e → is_done e.stage ≡ false → NothingBefore es k e → NoneOvertakes es → NoneOvertakes (changed_at (with_stage s) k es)
+changed_overtakes es k e s at live free h i j x y lt a b c d = elim (changed_or (with_stage s) k es i x a) [
+    | kept oa na ↦ elim (changed_or (with_stage s) k es j y b) [
+        | kept ob nb ↦ h i j x y lt oa ob c d
+        | changed z jk gk fz ↦
+            let z_is : z ≡ e = same_Some z e (sym gk ∙ at) in
+            ap (before x) (sym fz) ∙ before_same s x z ∙ ap (before x) z_is ∙ free i x (omega (arith, lt, jk)) oa c
+      ]
+    | changed z ik gk fz ↦ elim (changed_or (with_stage s) k es j y b) [
+        | kept ob nb ↦
+            let z_is : z ≡ e = same_Some z e (sym gk ∙ at) in
+            ap (λ w. before w y) (sym fz) ∙ before_same_by s z y ∙ ap (λ w. before w y) z_is ∙ h k j e y (omega (arith, lt, ik)) at ob live d
+        | changed w jk gj fw ↦ absurd (omega (arith, lt, ik, jk))
+      ]
+  ]
+
+changed_sound : (es : List Entry) (bs cs : List Buffer) (k : ℕ) (s : Stage) → Extends bs cs → ((j : ℕ) (x : Entry) → slice_get es j ≡ Some x → IsSound bs x.needs x.work x.after x.in_order) → (j : ℕ) (x : Entry) → slice_get (changed_at (with_stage s) k es) j ≡ Some x → IsSound cs x.needs x.work x.after x.in_order
+changed_sound es bs cs k s w h j x g = elim (changed_or (with_stage s) k es j x g) [
+    | kept old n ↦ sound_more bs cs x.needs x.work x.after x.in_order w (h j x old)
+    | changed z jk gk fz ↦ subst (λ (y : Entry). IsSound cs y.needs y.work y.after y.in_order) fz (sound_more bs cs z.needs z.work z.after z.in_order w (h k z gk))
+  ]
+
+pub granted_holds : (out : OutcomeOf) (l : Ledger) (es : List Entry) (bs : List Buffer) (k : ℕ) (e : Entry) → slice_get es k ≡ Some e → is_done e.stage ≡ false → NothingBefore es k e → Holds out l es bs → Holds out l (changed_at (with_stage Granted) k es) bs
+granted_holds out l es bs k e at live free h = record {
+  numbers = h.numbers ∙ ap numbers_of (sym (still_open out (closed_with l.closings) 0 k es e Granted l.made at live refl));
+  count = h.count;
+  none_overtakes = changed_overtakes es k e Granted at live free h.none_overtakes;
+  sound = changed_sound es bs bs k Granted (same_extends bs bs refl) h.sound;
+}
+
+pub done_holds : (out : OutcomeOf) (l m : Ledger) (es : List Entry) (bs cs : List Buffer) (k : ℕ) (e : Entry) (s : Stage) → slice_get es k ≡ Some e → is_done e.stage ≡ false → NothingBefore es k e → is_done s ≡ true → m.made ≡ l.made → ((j : ℕ) → (j ≡ k → ⊥) → closed_with m.closings j ≡ closed_with l.closings j) → cs ≡ after_work out (closed_with m.closings k) e.needs e.work bs → Holds out l es bs → Holds out m (changed_at (with_stage s) k es) cs
+done_holds out l m es bs cs k e s at live free over made same p h = record {
+  numbers =
+    let given = closed_with m.closings in
+    let place : 0 + k ≡ k = omega arith in
+    ap numbers_of p
+    ∙ same_after out (given k) e.needs e.work bs (done_in_order out l es) h.numbers
+    ∙ ap (λ j. numbers_of (after_work out (given j) e.needs e.work (done_in_order out l es))) (sym place)
+    ∙ ap numbers_of (sym (now_done out (closed_with l.closings) given 0 k es e s l.made at live over (λ j n. same j (λ q. n (q ∙ sym place))) (λ j y lt g d. ordered es h.none_overtakes k j e y lt at g live d)))
+    ∙ ap (λ b. numbers_of (story (tale out given is_over) 0 (changed_at (with_stage s) k es) b)) (sym made);
+  count = ap length made ∙ h.count ∙ sym (ap length p ∙ length_after out (closed_with m.closings k) e.needs e.work bs);
+  none_overtakes = changed_overtakes es k e s at live free h.none_overtakes;
+  sound = changed_sound es bs cs k s (subst (Extends bs) (sym p) (after_extends out (closed_with m.closings k) e.needs e.work bs)) h.sound;
+}
+
+-- ---- an ask
+
+with_parts : List Buffer → List (ℕ × List ℤ) → Ledger
+with_parts made closings = record { made = made; closings = closings }
+
+moved : (out : OutcomeOf) (l m : Ledger) (es fs : List Entry) (bs cs : List Buffer) → l ≡ m → es ≡ fs → bs ≡ cs → Holds out l es bs → Holds out m fs cs
+moved out l m es fs bs cs p q r h = subst (λ x. Holds out x fs cs) p (subst (λ x. Holds out l x cs) q (subst (λ x. Holds out l es x) r h))
+
+drop_all : {A : Type 0} (xs : List A) (n : ℕ) → length xs ≡ n → drop n xs ≡ []
+drop_all [] zero h = refl
+drop_all [] (suc n) h = refl
+drop_all (x ∷ xs) zero h = absurd (omega (arith, h))
+drop_all (x ∷ xs) (suc n) h = drop_all xs n (omega (arith, h))
+
+drop_front : {A : Type 0} (xs : List A) (x : A) → drop (length xs) (xs ++ x ∷ []) ≡ x ∷ []
+drop_front [] x = refl
+drop_front (y ∷ xs) x = drop_front xs x
+
+same_place : (k : ℕ) → (k == k) ≡ true
+same_place k = grind (arith, nat_tests)
+
+other_place : (k j : ℕ) → (j ≡ k → ⊥) → (k == j) ≡ false
+other_place k j n = by_test (k == j) refl
+  where
+    by_test : (v : Bool) → (k == j) ≡ v → (k == j) ≡ false
+    by_test false e = e
+    by_test true e = let q : j ≡ k = grind (arith, nat_tests, e) in absurd (n q)
+
+-- the ledger after a change
+abbrev pub after_change : Ledger → List Buffer → List Buffer → List (ℕ × List ℤ) → Ledger
+after_change l bs cs closes = record { made = l.made ++ drop (length bs) cs; closings = closes ++ l.closings }
+
+nothing_noted : (l : Ledger) (bs cs : List Buffer) (closes : List (ℕ × List ℤ)) → length cs ≡ length bs → closes ≡ [] → l ≡ after_change l bs cs closes
+unfolding with_parts
+nothing_noted l bs cs closes h r =
+    sym (ap (λ d. with_parts (l.made ++ d) (closes ++ l.closings)) (drop_all cs (length bs) h)
+        ∙ ap (λ d. with_parts d (closes ++ l.closings)) (append-nil l.made)
+        ∙ ap (λ c. with_parts l.made (c ++ l.closings)) r)
+
+pub change_holds : (out : OutcomeOf) (l : Ledger) (es fs : List Entry) (bs cs : List Buffer) (closes : List (ℕ × List ℤ)) → Change es fs bs cs closes → Holds out l es bs → Holds out (after_change l bs cs closes) fs cs
+unfolding with_parts with_made
+change_holds out l es fs bs cs closes (quiet p q r) h =
+    moved out l (after_change l bs cs closes) es fs cs cs (nothing_noted l bs cs closes (same_length bs cs q) r) (sym p) refl (quiet_holds out l es bs cs q h)
+change_holds out l es fs bs cs closes (wider x p q r) h =
+    let m : with_made l (l.made ++ x ∷ []) ≡ after_change l bs cs closes =
+        ap (λ d. with_parts (l.made ++ d) l.closings) (sym (ap (drop (length bs)) q ∙ drop_front bs x)) ∙ ap (λ c. with_parts (l.made ++ drop (length bs) cs) (c ++ l.closings)) (sym r) in
+    moved out (with_made l (l.made ++ x ∷ [])) (after_change l bs cs closes) es fs (bs ++ x ∷ []) cs m (sym p) (sym q) (wider_holds out l es bs x h)
+change_holds out l es fs bs cs closes (added e t s p q r) h =
+    let now = quiet_holds out l es bs cs q h in
+    moved out l (after_change l bs cs closes) (es ++ e ∷ []) fs cs cs (nothing_noted l bs cs closes (same_length bs cs q) r) (sym p) refl
+    (added_holds out l es cs e (ap is_pending t) (sound_more bs cs e.needs e.work e.after e.in_order (same_extends bs cs q) s) now)
+change_holds out l es fs bs cs closes (shut k e values at t p q r) h =
+    let m = with_parts l.made ((k, values) ∷ l.closings) in
+    let new : m ≡ after_change l bs cs closes =
+        ap (λ d. with_parts d ((k, values) ∷ l.closings)) (sym (ap (λ d. l.made ++ d) (drop_all cs (length bs) (ap length (q out) ∙ length_after out values e.needs e.work bs)) ∙ append-nil l.made))
+        ∙ ap (λ c. with_parts (l.made ++ drop (length bs) cs) (c ++ l.closings)) (sym r) in
+    let put_here : values ≡ closed_with m.closings k = ap (λ v. if v then values else closed_with l.closings k) (sym (same_place k)) in
+    moved out m (after_change l bs cs closes) (changed_at (with_stage Done) k es) fs cs cs new (sym p) refl
+    (done_holds out l m es bs cs k e Done at (ap is_done t) (λ i x lt g d. h.none_overtakes i k x e lt g at d (ap is_pending t)) refl refl
+        (λ j n. ap (λ v. if v then values else closed_with l.closings j) (other_place k j n))
+        (q out ∙ ap (λ v. after_work out v e.needs e.work bs) put_here) h)
