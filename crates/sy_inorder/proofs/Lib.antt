@@ -4,4 +4,5 @@ pub mod Changes
 pub mod Cells
 pub mod Told
 pub mod Kept
+pub mod Running
 pub mod Readers
