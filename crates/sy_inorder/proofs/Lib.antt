@@ -5,4 +5,5 @@ pub mod Cells
 pub mod Told
 pub mod Kept
 pub mod Running
+pub mod Sees
 pub mod Readers

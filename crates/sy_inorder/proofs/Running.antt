@@ -85,7 +85,7 @@ step_holds p l s t h =
     let q = next_ask p s t in
     upto_holds p.outcome (noted l s.board t q) (asked s.board t q) (length (asked s.board t q).entries) (asked_holds p.outcome l s.board t q h)
 
-one_legal : {A : Type 0} (v : Bool) (o : Option A) (x : A) → (if v then o else None) ≡ Some x → (v ≡ true) × (o ≡ Some x)
+pub one_legal : {A : Type 0} (v : Bool) (o : Option A) (x : A) → (if v then o else None) ≡ Some x → (v ≡ true) × (o ≡ Some x)
 one_legal true o x h = (refl, h)
 one_legal false o x h = absurd (none-some x h)
 
