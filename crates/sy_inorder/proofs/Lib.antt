@@ -7,3 +7,4 @@ pub mod Kept
 pub mod Running
 pub mod Sees
 pub mod Readers
+pub mod Granted

@@ -93,3 +93,7 @@ set_other (x ∷ xs) zero y zero h = absurd (h refl)
 set_other (x ∷ xs) zero y (suc j) h = refl
 set_other (x ∷ xs) (suc k) y zero h = refl
 set_other (x ∷ xs) (suc k) y (suc j) h = set_other xs k y j (λ e. h (ap suc e))
+
+pub take_all : {A : Type 0} (xs : List A) → take (length xs) xs ≡ xs
+take_all [] = refl
+take_all (x ∷ xs) = ap (λ l. x ∷ l) (take_all xs)

@@ -1,4 +1,5 @@
 use Rattle.sy_inorder.proofs.Readers.{readers_before, not_held, keep_off}
+use Rattle.sy_inorder.proofs.Granted.{reader_granted, opened_due}
 use Rattle.sy_inorder.proofs.laws.readers_do_not_wait.Goals as goal
 
 pub returns-clause-pairs : goal.returns-clause-pairs
@@ -9,3 +10,9 @@ returns-clause-held c = not_held
 
 pub returns-clause-off : goal.returns-clause-off
 returns-clause-off c = keep_off
+
+pub returns-clause-granted : goal.returns-clause-granted
+returns-clause-granted c = reader_granted
+
+pub returns-clause-opened : goal.returns-clause-opened
+returns-clause-opened c = opened_due
