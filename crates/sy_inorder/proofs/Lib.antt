@@ -8,3 +8,4 @@ pub mod Running
 pub mod Sees
 pub mod Readers
 pub mod Granted
+pub mod Waiting
