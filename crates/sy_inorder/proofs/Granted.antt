@@ -1,11 +1,11 @@
 -- Accesses that only read are granted at once.
 use Rattle.std.proofs.Common.{◌≡◌, ℕ, zero, suc, ◌+◌, ◌<◌, ◌≤◌, ℤ, List, [], ◌∷◌, ◌++◌, length, take, drop, map, Bool, true, false, Option, Some, None, refl, sym, ap, ◌∙◌, subst, arith}
-use Rattle.std.specs.Prelude.{slice_get, slice_set, not, ◌&&◌, ◌||◌, if◌then◌else◌, option_map}
-use Rattle.std.proofs.lemmas.Option.{same_Some, none-some, slice_get-map}
+use Rattle.std.specs.Prelude.{slice_get, slice_set, not, ◌&&◌, ◌||◌, if◌then◌else◌, option_map, nat_lt}
+use Rattle.std.proofs.lemmas.Option.{same_Some, none-some, slice_get-map, slice_get_within}
 use Rattle.sy_access.specs.declared.access.Need.{Need}
 use Rattle.sy_work.specs.Programs.{OutcomeOf, Program}
 use Rattle.sy_work.specs.declared.asks.Ask.{Ask}
-use Rattle.sy_work.specs.declared.asks.Ask.TheVariants.{OpenHost}
+use Rattle.sy_work.specs.declared.asks.Ask.TheVariants.{OpenHost, Spawn}
 use Rattle.sy_work.specs.declared.asks.Answer.{Answer}
 use Rattle.sy_work.specs.declared.asks.Answer.TheVariants.{Contents}
 use Rattle.sy_onecopy.specs.declared.Entry.{Entry}
@@ -13,21 +13,21 @@ use Rattle.sy_onecopy.specs.declared.Work.{Work}
 use Rattle.sy_onecopy.specs.declared.Work.TheVariants.{Node, Access, End}
 use Rattle.sy_onecopy.specs.declared.Waits.{Waits}
 use Rattle.sy_onecopy.specs.declared.Waits.TheVariants.{Ready, Due, Never, OnEntry}
-use Rattle.sy_onecopy.specs.State.{Board, State, start, next_ask}
+use Rattle.sy_onecopy.specs.State.{Board, State, Thread, new_thread, start, next_ask}
 use Rattle.sy_onecopy.specs.Before.{is_free, is_held, is_pending}
 use Rattle.sy_onecopy.specs.Laws.{IsSettled}
 use Rattle.sy_onecopy.specs.Outcome.{inputs}
 use Rattle.sy_onecopy.specs.Settle.{await, effect, settle_entry, settle_upto, settle, settle_one, first_of}
-use Rattle.sy_onecopy.specs.Step.{add_entry, access_entry, accesses, is_root_need, opened_host, apply, begun, given, give_all, turn, step}
+use Rattle.sy_onecopy.specs.Step.{grown, hear, hear_all, add_entry, access_entry, accesses, is_root_need, opened_host, apply, begun, given, give_all, turn, step}
 use Rattle.sy_onecopy.specs.Sequence.{ready_at, is_legal, may_step, goes_on, is_clear, seq, seq_from}
 use Rattle.sy_onecopy.proofs.Settled.{settled}
 use Rattle.sy_inorder.specs.Effects.{turned}
 use Rattle.sy_inorder.specs.Ledger.{asked, ledger_of}
-use Rattle.sy_inorder.specs.Reading.{IsLoose, all_let_read, only_reads}
+use Rattle.sy_inorder.specs.Reading.{all_keep_off, all_let_read, follows_none, only_reads}
 use Rattle.sy_inorder.proofs.Bools.{and_first, and_second}
 use Rattle.sy_inorder.proofs.Places as places
 use Rattle.sy_inorder.proofs.Changes.{StandsAlone}
-use Rattle.sy_inorder.proofs.Readers.{not_held, keep_off}
+use Rattle.sy_inorder.proofs.Readers.{not_held, keep_off, follows_nothing}
 use Rattle.sy_inorder.proofs.Running.{one_legal, seq_holds}
 
 -- ---- each state of a sequence is settled
@@ -56,11 +56,13 @@ not_pending : (es : List Entry) (k : ℕ) (e : Entry) → is_free es k e ≡ fal
 unfolding is_free
 not_pending es k e h g = both_hold (is_pending e.stage) (is_held (take k es) e) h g
 
+pub free_moves : (p : Program) (order : List ℕ) (s : State) (k : ℕ) (e : Entry) → seq p order ≡ Some s → slice_get s.board.entries k ≡ Some e → all_keep_off e (take k s.board.entries) ≡ true → follows_none e (take k s.board.entries) ≡ true → is_pending e.stage ≡ false
+free_moves p order s k e legal at off none = not_pending s.board.entries k e (seq_settled p order s legal k e at) (not_held (take k s.board.entries) e off none)
+
 pub reader_granted : (p : Program) (order : List ℕ) (s : State) (k t i : ℕ) (e : Entry) → seq p order ≡ Some s → slice_get s.board.entries k ≡ Some e → e.work ≡ Access t i → only_reads e.needs ≡ true → all_let_read (take k s.board.entries) ≡ true → is_pending e.stage ≡ false
 reader_granted p order s k t i e legal at work reads let_read =
     let alone = stands_alone e.work e.after e.in_order t i work ((seq_holds p order s legal).sound k e at).alone in
-    let loose : IsLoose e = record { names_none = alone.0; unordered = alone.1 } in
-    not_pending s.board.entries k e (seq_settled p order s legal k e at) (not_held (take k s.board.entries) e loose (keep_off (take k s.board.entries) e reads let_read))
+    free_moves p order s k e legal at (keep_off (take k s.board.entries) e reads let_read) (follows_nothing (take k s.board.entries) e alone.0 alone.1)
 
 -- ---- the step that opens it
 
@@ -114,7 +116,7 @@ opened_is : (b : Board) (t : ℕ) (n : Need) → is_root_need b.buffers n ≡ tr
 unfolding apply opened_host
 opened_is b t n h = opened_by (is_root_need b.buffers n) (begun b t) (with_access (begun b t) t n) h
 
-due_stays : (b : Board) (ws : List Waits) (t : ℕ) (a : Answer) → slice_get ws t ≡ Some (Due a) → slice_get (map (given b) ws) t ≡ Some (Due a)
+pub due_stays : (b : Board) (ws : List Waits) (t : ℕ) (a : Answer) → slice_get ws t ≡ Some (Due a) → slice_get (map (given b) ws) t ≡ Some (Due a)
 due_stays b ws t a h = slice_get-map (given b) ws t ∙ ap (option_map (given b)) h
 
 effect_due : (out : OutcomeOf) (b : Board) (k t i : ℕ) (e : Entry) → t < length b.waits → slice_get (effect out b k e (Access t i)).waits t ≡ Some (Due (Contents (first_of (inputs b.buffers e.needs))))
@@ -141,8 +143,7 @@ unfolding turn give_all
 turn_due out b t n still there root reads let_read =
     let e = access_entry t (accesses b.entries t) n in
     let c = with_access (begun b t) t n in
-    let loose : IsLoose e = record { names_none = refl; unordered = refl } in
-    let held : is_held b.entries e ≡ false = not_held b.entries e loose (keep_off b.entries e reads let_read) in
+    let held : is_held b.entries e ≡ false = not_held b.entries e (keep_off b.entries e reads let_read) (follows_nothing b.entries e refl refl) in
     let pass : settle out c ≡ effect out c (length b.entries) e e.work = pass_last out c b.entries e refl (λ j x g. still j x g) (newly_free b.entries e c.entries refl refl held) in
     let long : t < length c.waits =
         let x = length_slice_set (slice_set b.waits t Never) t OnEntry in
@@ -155,3 +156,24 @@ turn_due out b t n still there root reads let_read =
 pub opened_due : (p : Program) (order : List ℕ) (s : State) (t : ℕ) (n : Need) → seq p order ≡ Some s → is_legal p s t ≡ true → next_ask p s t ≡ OpenHost n → is_root_need s.board.buffers n ≡ true → only_reads (n ∷ []) ≡ true → all_let_read s.board.entries ≡ true → slice_get (turned p s t).waits t ≡ Some (Due (Contents (first_of (inputs s.board.buffers (n ∷ [])))))
 opened_due p order s t n legal may ask root reads let_read =
     ap (λ q. slice_get (turn p.outcome s.board t q).waits t) ask ∙ turn_due p.outcome s.board t n (seq_settled p order s legal) (legal_there p s t may) root reads let_read
+
+-- ---- the thread hears it
+
+heard_at : (ws : List Waits) (xs : List Thread) (u : ℕ) (a : Answer) (x : Thread) → slice_get ws u ≡ Some (Due a) → slice_get xs u ≡ Some x → slice_get (hear_all ws xs) u ≡ Some (record x { answers = x.answers ++ a ∷ [] })
+heard_at [] xs u a x h g = absurd (none-some (Due a) h)
+heard_at (w ∷ ws) [] u a x h g = absurd (none-some x g)
+heard_at (w ∷ ws) (y ∷ xs) zero a x h g = ap (λ v. Some (hear v y)) (same_Some w (Due a) h) ∙ ap (λ z. Some (hear (Due a) z)) (same_Some y x g)
+heard_at (w ∷ ws) (y ∷ xs) (suc u) a x h g = heard_at ws xs u a x h g
+
+more_threads : (v : Bool) (xs : List Thread) (new : Thread) (u : ℕ) (x : Thread) → slice_get xs u ≡ Some x → slice_get (if v then xs ++ new ∷ [] else xs) u ≡ Some x
+more_threads true xs new u x h = places.get_front xs new u (slice_get_within xs u x h) ∙ h
+more_threads false xs new u x h = h
+
+still_there : (b : Board) (q : Ask) (xs : List Thread) (u : ℕ) (x : Thread) → slice_get xs u ≡ Some x → slice_get (grown b q xs) u ≡ Some x
+unfolding grown
+still_there b (Spawn body captures) xs u x h = more_threads (nat_lt (length xs) (length b.waits)) xs (new_thread body captures) u x h
+still_there b q xs u x h = h
+
+pub heard : (p : Program) (s : State) (t u : ℕ) (a : Answer) (x : Thread) → slice_get (turned p s t).waits u ≡ Some (Due a) → slice_get s.threads u ≡ Some x → slice_get (step p s t).threads u ≡ Some (record x { answers = x.answers ++ a ∷ [] })
+unfolding step
+heard p s t u a x due there = heard_at (turned p s t).waits (grown (turned p s t) (next_ask p s t) s.threads) u a x due (still_there (turned p s t) (next_ask p s t) s.threads u x there)

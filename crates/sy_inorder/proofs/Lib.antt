@@ -9,3 +9,4 @@ pub mod Sees
 pub mod Readers
 pub mod Granted
 pub mod Waiting
+pub mod Ended

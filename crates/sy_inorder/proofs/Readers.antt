@@ -7,7 +7,7 @@ use Rattle.sy_access.specs.Needs.{conflict, is_apart, writes, shares}
 use Rattle.sy_onecopy.specs.declared.Entry.{Entry}
 use Rattle.sy_onecopy.specs.declared.Work.{Work}
 use Rattle.sy_onecopy.specs.Before.{meets_one, meets, meet, before, is_named, both_on, blocks, is_held, is_done, is_node}
-use Rattle.sy_inorder.specs.Reading.{only_reads, lets_read, all_let_read, all_keep_off, IsLoose}
+use Rattle.sy_inorder.specs.Reading.{only_reads, lets_read, all_let_read, all_keep_off, follows, follows_none}
 use Rattle.sy_onecopy.proofs.Settled.{settled}
 use Rattle.sy_inorder.proofs.Bools.{and_first, and_second, and_true, not_true, or_false}
 
@@ -33,37 +33,47 @@ pub readers_meet : (x y : Entry) → only_reads x.needs ≡ true → only_reads 
 unfolding only_reads meet
 readers_meet x y h i = all_meet_none x.needs y.needs x.place y refl h i
 
-pub readers_before : (x y : Entry) → only_reads x.needs ≡ true → only_reads y.needs ≡ true → before x y ≡ (is_named x.work y.after || both_on x.in_order y.in_order)
+pub readers_before : (x y : Entry) → only_reads x.needs ≡ true → only_reads y.needs ≡ true → before x y ≡ follows y x
 unfolding before
 readers_before x y h i = ap (λ v. v || (is_named x.work y.after || both_on x.in_order y.in_order)) (readers_meet x y h i)
+
+not_blocks : (x y : Entry) (v : Bool) → is_done x.stage ≡ v → (v || not (meet x y)) ≡ true → (v || not (follows y x)) ≡ true → blocks y x ≡ false
+unfolding blocks before
+not_blocks x y true d h g = ap (λ v. not v && before x y) d
+not_blocks x y false d h g = ap (λ v. not v && before x y) d ∙ or_false (meet x y) (follows y x) (not_true (meet x y) h) (not_true (follows y x) g)
+
+none_hold : (xs : List Entry) (y : Entry) → list_all (λ x. is_done x.stage || not (meet x y)) xs ≡ true → list_all (λ x. is_done x.stage || not (follows y x)) xs ≡ true → list_any (blocks y) xs ≡ false
+none_hold [] y h g = refl
+none_hold (x ∷ xs) y h g =
+    let v = is_done x.stage || not (meet x y) in
+    let w = is_done x.stage || not (follows y x) in
+    let r = list_all (λ z. is_done z.stage || not (meet z y)) xs in
+    let s = list_all (λ z. is_done z.stage || not (follows y z)) xs in
+    or_false (blocks y x) (list_any (blocks y) xs) (not_blocks x y (is_done x.stage) refl (and_first v r h) (and_first w s g)) (none_hold xs y (and_second v r h) (and_second w s g))
+
+pub not_held : (earlier : List Entry) (y : Entry) → all_keep_off y earlier ≡ true → follows_none y earlier ≡ true → is_held earlier y ≡ false
+unfolding all_keep_off follows_none is_held
+not_held earlier y h g = none_hold earlier y h g
 
 unordered_both : (p : Option ℕ) → both_on p None ≡ false
 unordered_both None = refl
 unordered_both (Some p) = refl
 
--- before a loose entry comes only what meets it
-loose_before : (x y : Entry) → IsLoose y → meet x y ≡ false → before x y ≡ false
-unfolding before is_named
-loose_before x y l h =
-    let named : is_named x.work y.after ≡ false = ap (is_named x.work) l.names_none in
-    let on : both_on x.in_order y.in_order ≡ false = ap (both_on x.in_order) l.unordered ∙ unordered_both x.in_order in
-    or_false (meet x y) (is_named x.work y.after || both_on x.in_order y.in_order) h (or_false (is_named x.work y.after) (both_on x.in_order y.in_order) named on)
+loose_follows : (x y : Entry) → y.after ≡ [] → y.in_order ≡ None → follows y x ≡ false
+unfolding is_named
+loose_follows x y names_none unordered =
+    or_false (is_named x.work y.after) (both_on x.in_order y.in_order) (ap (is_named x.work) names_none) (ap (both_on x.in_order) unordered ∙ unordered_both x.in_order)
 
-not_blocks : (x y : Entry) → IsLoose y → (v : Bool) → is_done x.stage ≡ v → (v || not (meet x y)) ≡ true → blocks y x ≡ false
-unfolding blocks
-not_blocks x y l true d h = ap (λ v. not v && before x y) d
-not_blocks x y l false d h = ap (λ v. not v && before x y) d ∙ loose_before x y l (not_true (meet x y) h)
+or_not : (a b : Bool) → b ≡ false → (a || not b) ≡ true
+or_not true b h = refl
+or_not false b h = ap not h
 
-none_hold : (xs : List Entry) (y : Entry) → IsLoose y → list_all (λ x. is_done x.stage || not (meet x y)) xs ≡ true → list_any (blocks y) xs ≡ false
-none_hold [] y l h = refl
-none_hold (x ∷ xs) y l h =
-    let v = is_done x.stage || not (meet x y) in
-    let r = list_all (λ z. is_done z.stage || not (meet z y)) xs in
-    or_false (blocks y x) (list_any (blocks y) xs) (not_blocks x y l (is_done x.stage) refl (and_first v r h)) (none_hold xs y l (and_second v r h))
-
-pub not_held : (earlier : List Entry) (y : Entry) → IsLoose y → all_keep_off y earlier ≡ true → is_held earlier y ≡ false
-unfolding all_keep_off is_held
-not_held earlier y l h = none_hold earlier y l h
+-- an entry that names no node and is in no in-order queue follows none
+pub follows_nothing : (earlier : List Entry) (y : Entry) → y.after ≡ [] → y.in_order ≡ None → follows_none y earlier ≡ true
+unfolding follows_none
+follows_nothing [] y h g = refl
+follows_nothing (x ∷ xs) y h g =
+    and_true (is_done x.stage || not (follows y x)) (list_all (λ z. is_done z.stage || not (follows y z)) xs) (or_not (is_done x.stage) (follows y x) (loose_follows x y h g)) (follows_nothing xs y h g)
 
 one_keeps_off : (x y : Entry) → only_reads y.needs ≡ true → (v : Bool) → (v || only_reads x.needs) ≡ true → (v || not (meet x y)) ≡ true
 one_keeps_off x y h true i = refl

@@ -1,12 +1,13 @@
 -- What an entry is given is what the story of all entries before it leaves.
 use Rattle.std.proofs.Common.{◌≡◌, ℕ, zero, suc, ◌+◌, ◌<◌, ◌≤◌, ℤ, List, [], ◌∷◌, ◌++◌, length, take, drop, Bool, true, false, Option, Some, None, refl, sym, ap, ◌∙◌, subst, arith}
-use Rattle.std.specs.Prelude.{slice_get, not, ◌&&◌, ◌||◌, if◌then◌else◌, option_map, unwrap_or}
+use Rattle.std.specs.Prelude.{slice_get, not, ◌&&◌, ◌||◌, if◌then◌else◌, option_map, unwrap_or, slice_index_or, ◌-◌}
 use Rattle.std.specs.List.{list_any}
-use Rattle.std.proofs.lemmas.Option.{same_Some, none-some}
+use Rattle.std.proofs.lemmas.Option.{same_Some, none-some, slice_get_within, get_or_from_slice_get}
 use Rattle.sy_access.specs.declared.access.Need.{Need}
 use Rattle.sy_access.specs.declared.cells.Cell.{Cell}
 use Rattle.sy_access.specs.declared.cells.Cell.TheVariants as cell
 use Rattle.sy_access.specs.Logs.{logged}
+use Rattle.sy_access.specs.Needs.{has_cell, writes}
 use Rattle.sy_work.specs.Programs.{OutcomeOf, Program, Input}
 use Rattle.sy_work.specs.declared.commands.Command.{Command}
 use Rattle.sy_work.specs.declared.commands.Outcome.{Outcome}
@@ -14,14 +15,15 @@ use Rattle.sy_work.specs.declared.commands.Outcome.TheVariants.{Wrote}
 use Rattle.sy_onecopy.specs.declared.Buffer.{Buffer}
 use Rattle.sy_onecopy.specs.declared.Entry.{Entry}
 use Rattle.sy_onecopy.specs.declared.Work.{Work}
-use Rattle.sy_onecopy.specs.declared.Work.TheVariants.{Node}
+use Rattle.sy_onecopy.specs.declared.Work.TheVariants.{Node, Access}
 use Rattle.sy_onecopy.specs.State.{Board, State, start, next_ask}
 use Rattle.sy_onecopy.specs.Before.{before, meet, is_named, both_on, is_free, is_done}
 use Rattle.sy_onecopy.specs.Outcome.{inputs, is_written, at_start, cell_after, buffer_after, buffers_after, values_at}
 use Rattle.sy_onecopy.specs.Settle.{settle_upto}
-use Rattle.sy_onecopy.specs.Step.{step}
+use Rattle.sy_onecopy.specs.Each.{each_from}
+use Rattle.sy_onecopy.specs.Step.{buffer_put, cell_put, step}
 use Rattle.sy_onecopy.specs.Sequence.{is_legal, seq, seq_from}
-use Rattle.sy_inorder.specs.Story.{after_work, log_of, numbers_of, some_has, some_writes, element, Telling, told, story, is_over, is_any}
+use Rattle.sy_inorder.specs.Story.{put, after_work, log_of, numbers_of, some_has, some_writes, element, Telling, told, story, is_over, is_any}
 use Rattle.sy_inorder.specs.Ledger.{Ledger, closed_with, asked, noted, empty, ledger_from, ledger_of, in_order, done_in_order}
 use Rattle.sy_inorder.specs.Effects.{TakesEffect}
 use Rattle.sy_inorder.proofs.Bools.{or_left}
@@ -53,6 +55,11 @@ rows_by false s k e bs r = refl
 pub story-rows : (s : Telling) (k : ℕ) (es : List Entry) (bs : List Buffer) (r : ℕ) → length (values_at (story s k es bs) r) ≡ length (values_at bs r)
 story-rows s k [] bs r = refl
 story-rows s k (e ∷ es) bs r = story-rows s (suc k) es (told s k e bs) r ∙ rows_by (s.tells e) s k e bs r
+
+length_take : (es : List Entry) (j : ℕ) → j < length es → 0 + length (take j es) ≡ j
+length_take es zero h = refl
+length_take [] (suc j) h = absurd (omega (arith, h))
+length_take (x ∷ es) (suc j) h = let n = length_take es j (omega (arith, h)) in omega (arith, n)
 
 take_one : (j : ℕ) (es : List Entry) (e : Entry) → slice_get es j ≡ Some e → take (suc j) es ≡ take j es ++ e ∷ []
 take_one j [] e h = absurd (none-some e h)
@@ -86,6 +93,31 @@ what_it_wrote out l entries j b i n q e c log v at work wrote h g lt =
     ∙ ap (λ w. element (after_work out (closed_with l.closings (0 + length (take j entries))) e.needs w bs) b i) work
     ∙ ap (λ o. element (buffers_after e.needs (log_of o) bs) b i) wrote
     ∙ written_element e.needs log bs b i v h g (omega (arith, lt, rows))
+
+put_cell : (n : Need) (values : List ℤ) (b i : ℕ) (v x : ℤ) → has_cell n b i ≡ true → slice_get values (i - n.from) ≡ Some v → cell_put n values b i x ≡ v
+unfolding cell_put
+put_cell n values b i v x h g = ap (λ t. if t then slice_index_or values (i - n.from) x else x) h ∙ get_or_from_slice_get values (i - n.from) v x g
+
+put_element : (w : Bool) (n : Need) (values : List ℤ) (bs : List Buffer) (b i : ℕ) (v : ℤ) → w ≡ true → has_cell n b i ≡ true → slice_get values (i - n.from) ≡ Some v → i < length (values_at bs b) → element (if w then each_from (buffer_put n values) 0 bs else bs) b i ≡ Some v
+unfolding buffer_put
+put_element false n values bs b i v w h g lt = let z : false ≡ true = w in absurd cc
+put_element true n values bs b i v w h g lt =
+    let x = something (values_at bs b) i lt in
+    element-over (cell_put n values) bs b i ∙ ap (option_map (cell_put n values b i)) x.1 ∙ ap Some (put_cell n values b i v x.0 h g)
+
+pub what_was_put : (out : OutcomeOf) (l : Ledger) (entries : List Entry) (j b i t a : ℕ) (e : Entry) (n : Need) (v : ℤ) → slice_get entries j ≡ Some e → e.work ≡ Access t a → e.needs ≡ n ∷ [] → writes n.mode ≡ true → has_cell n b i ≡ true → slice_get (closed_with l.closings j) (i - n.from) ≡ Some v → i < length (values_at l.made b) → element (in_order out l (take (suc j) entries)) b i ≡ Some v
+unfolding after_work put
+what_was_put out l entries j b i t a e n v at work needs w h g lt =
+    let s = tale out (closed_with l.closings) is_any in
+    let bs = in_order out l (take j entries) in
+    let rows = story-rows s 0 (take j entries) l.made b in
+    let place : 0 + length (take j entries) ≡ j = length_take entries j (slice_get_within entries j e at) in
+    ap (λ es. element (in_order out l es) b i) (take_one j entries e at)
+    ∙ ap (λ x. element x b i) (one_more s 0 (take j entries) e l.made)
+    ∙ ap (λ k. element (after_work out (closed_with l.closings k) e.needs e.work bs) b i) place
+    ∙ ap (λ z. element (after_work out (closed_with l.closings j) e.needs z bs) b i) work
+    ∙ ap (λ ns. element (put ns (closed_with l.closings j) bs) b i) needs
+    ∙ put_element (writes n.mode) n (closed_with l.closings j) bs b i v w h g (omega (arith, lt, rows))
 
 -- ---- what an entry is given
 

@@ -47,6 +47,10 @@ owner (Node n q c) = None
 owner (Access t i) = Some t
 owner (End t r) = Some t
 
+pub end_owner : (u r : ℕ) (w : Work) → w ≡ End u r → owner w ≡ Some u
+unfolding owner
+end_owner u r w h = ap owner h
+
 -- an entry of the list is pending, and a thread's
 pub record IsOf (es : List Entry) (k u : ℕ) (e : Entry) : Type 0 where
   pub there : slice_get es k ≡ Some e

@@ -4,7 +4,7 @@ use Rattle.std.specs.List.{list_any, list_all}
 use Rattle.sy_access.specs.declared.access.Need.{Need}
 use Rattle.sy_access.specs.Needs.{writes}
 use Rattle.sy_onecopy.specs.declared.Entry.{Entry}
-use Rattle.sy_onecopy.specs.Before.{is_done, meet}
+use Rattle.sy_onecopy.specs.Before.{both_on, is_done, is_named, meet}
 
 -- no need writes
 unfoldable pub only_reads : List Need → Bool
@@ -18,11 +18,14 @@ lets_read e = is_done e.stage || only_reads e.needs
 unfoldable pub all_let_read : List Entry → Bool
 all_let_read entries = list_all lets_read entries
 
--- the entry is done, or has no need that meets one of y
+-- each of the entries is done, or has no need that meets one of y
 unfoldable pub all_keep_off : Entry → List Entry → Bool
 all_keep_off y entries = list_all (λ x. is_done x.stage || not (meet x y)) entries
 
--- the entry names no node, and is in no in-order queue
-pub record IsLoose (e : Entry) : Type 0 where
-  pub names_none : e.after ≡ []
-  pub unordered : e.in_order ≡ None
+-- y names the entry, or both are nodes of one in-order queue
+abbrev pub follows : Entry → Entry → Bool
+follows y x = is_named x.work y.after || both_on x.in_order y.in_order
+
+-- each of the entries is done, or y does not follow it
+unfoldable pub follows_none : Entry → List Entry → Bool
+follows_none y entries = list_all (λ x. is_done x.stage || not (follows y x)) entries

@@ -1,7 +1,9 @@
 // Laws over whole sequences of steps, each the contract of a function without parameters.
 
-ghost use Rattle.std.specs.Prelude.{◌≡◌, ◌++◌, ◌<◌, ℕ, suc, ℤ, List, [], ◌∷◌, true, false, length, take, drop, Some, slice_get, ◌||◌};
+ghost use Rattle.std.specs.Prelude.{◌≡◌, ◌++◌, ◌<◌, ◌-◌, ℕ, suc, ℤ, List, [], ◌∷◌, true, false, length, take, drop, Some, slice_get, ◌||◌};
 ghost use Rattle.sy_access.specs.declared.access.Need.{Need};
+ghost use Rattle.sy_access.specs.Needs.{has_cell, writes};
+ghost use Rattle.sy_work.specs.declared.asks.Answer.{Answer};
 ghost use Rattle.sy_work.specs.declared.asks.Ask.TheVariants.{OpenHost};
 ghost use Rattle.sy_work.specs.declared.asks.Answer.TheVariants.{Contents};
 ghost use Rattle.sy_work.specs.Programs.{OutcomeOf, Program};
@@ -9,14 +11,14 @@ ghost use Rattle.sy_onecopy.specs.declared.Entry.{Entry};
 ghost use Rattle.sy_onecopy.specs.declared.Work.TheVariants.{Node, Access, End};
 ghost use Rattle.sy_onecopy.specs.declared.Stage.TheVariants.{Granted};
 ghost use Rattle.sy_onecopy.specs.declared.Waits.TheVariants.{Due};
-ghost use Rattle.sy_onecopy.specs.Before.{before, both_on, is_held, is_named, is_pending, meet};
+ghost use Rattle.sy_onecopy.specs.Before.{before, is_held, is_pending};
 ghost use Rattle.sy_onecopy.specs.Outcome.{inputs, values_at};
 ghost use Rattle.sy_onecopy.specs.Sequence.{is_legal, seq};
 ghost use Rattle.sy_onecopy.specs.Settle.{first_of};
-ghost use Rattle.sy_onecopy.specs.State.{Board, State, next_ask};
-ghost use Rattle.sy_onecopy.specs.Step.{is_root_need};
+ghost use Rattle.sy_onecopy.specs.State.{Board, State, Thread, next_ask};
+ghost use Rattle.sy_onecopy.specs.Step.{is_root_need, step};
 ghost use Rattle.sy_inorder.specs.Effects.{TakesEffect, turned};
-ghost use Rattle.sy_inorder.specs.Ledger.{Ledger, done_in_order, in_order, ledger_of};
+ghost use Rattle.sy_inorder.specs.Ledger.{Ledger, closed_with, done_in_order, in_order, ledger_of};
 ghost use Rattle.sy_inorder.specs.Story.{Telling, element, numbers_of, some_has, some_writes, story};
 ghost use Rattle.sy_access.specs.declared.cells.Cell.{Cell};
 ghost use Rattle.sy_access.specs.declared.cells.Cell.TheVariants as cell;
@@ -25,25 +27,34 @@ ghost use Rattle.sy_work.specs.declared.commands.Command.{Command};
 ghost use Rattle.sy_work.specs.declared.commands.Outcome.TheVariants.{Wrote};
 ghost use Rattle.sy_onecopy.specs.declared.Buffer.{Buffer};
 ghost use Rattle.sy_onecopy.specs.Outcome.{is_written};
-ghost use Rattle.sy_inorder.specs.Reading.{IsLoose, all_keep_off, all_let_read, only_reads};
+ghost use Rattle.sy_inorder.specs.Reading.{all_keep_off, all_let_read, follows, follows_none, only_reads};
 
 /// Of two entries that only read, neither waits for the other, unless it names it or they are nodes
-/// of one in-order queue. A read-only host access waits for none that only reads, and has its
-/// contents in the step that opens it where nothing else is before it.
+/// of one in-order queue. In each state of a legal sequence an entry whose earlier ones are done, or
+/// don't meet it and aren't followed by it, has taken effect. So has a read-only host access whose
+/// earlier entries are done or only read: in the step that opens it its contents are due.
 pub fn readers_do_not_wait()
-    ensures pairs { (x y : Entry) → only_reads x.needs ≡ true → only_reads y.needs ≡ true → before x y ≡ (is_named x.work y.after || both_on x.in_order y.in_order) }
-    ensures held { (earlier : List Entry) (y : Entry) → IsLoose y → all_keep_off y earlier ≡ true → is_held earlier y ≡ false }
+    ensures pairs { (x y : Entry) → only_reads x.needs ≡ true → only_reads y.needs ≡ true → before x y ≡ follows y x }
+    ensures held { (earlier : List Entry) (y : Entry) → all_keep_off y earlier ≡ true → follows_none y earlier ≡ true → is_held earlier y ≡ false }
     ensures off { (earlier : List Entry) (y : Entry) → only_reads y.needs ≡ true → all_let_read earlier ≡ true → all_keep_off y earlier ≡ true }
+    ensures moves { (p : Program) (order : List ℕ) (s : State) (k : ℕ) (e : Entry) → seq p order ≡ Some s → slice_get s.board.entries k ≡ Some e → all_keep_off e (take k s.board.entries) ≡ true → follows_none e (take k s.board.entries) ≡ true → is_pending e.stage ≡ false }
     ensures granted { (p : Program) (order : List ℕ) (s : State) (k t i : ℕ) (e : Entry) → seq p order ≡ Some s → slice_get s.board.entries k ≡ Some e → e.work ≡ Access t i → only_reads e.needs ≡ true → all_let_read (take k s.board.entries) ≡ true → is_pending e.stage ≡ false }
     ensures opened { (p : Program) (order : List ℕ) (s : State) (t : ℕ) (n : Need) → seq p order ≡ Some s → is_legal p s t ≡ true → next_ask p s t ≡ OpenHost n → is_root_need s.board.buffers n ≡ true → only_reads (n ∷ []) ≡ true → all_let_read s.board.entries ≡ true → slice_get (turned p s t).waits t ≡ Some (Due (Contents (first_of (inputs s.board.buffers (n ∷ []))))) }
 {}
 
+/// An answer that is due after a turn reaches its thread in that step.
+pub fn due_answers_are_heard()
+    ensures { (p : Program) (s : State) (t u : ℕ) (a : Answer) (x : Thread) → slice_get (turned p s t).waits u ≡ Some (Due a) → slice_get s.threads u ≡ Some x → slice_get (step p s t).threads u ≡ Some (record x { answers = x.answers ++ a ∷ [] }) }
+{}
+
 /// In the plain story an element that no entry writes keeps its first number, and else it has what
-/// the last entry that writes it left: for a command, the number that its log has for the element.
+/// the last entry that writes it left: for a command the number that its log has for the element,
+/// and for a host access the one that it was closed with.
 pub fn the_last_writer_decides()
     ensures first { (s : Telling) (k : ℕ) (entries : List Entry) (buffers : List Buffer) (b i : ℕ) → some_writes entries b i ≡ false → element (story s k entries buffers) b i ≡ element buffers b i }
     ensures last { (out : OutcomeOf) (l : Ledger) (entries : List Entry) (j b i : ℕ) → some_writes (drop (suc j) entries) b i ≡ false → element (in_order out l entries) b i ≡ element (in_order out l (take (suc j) entries)) b i }
     ensures wrote { (out : OutcomeOf) (l : Ledger) (entries : List Entry) (j b i n q : ℕ) (e : Entry) (c : Command) (log : List (Cell × ℤ)) (v : ℤ) → slice_get entries j ≡ Some e → e.work ≡ Node n q c → out c (inputs (in_order out l (take j entries)) e.needs) ≡ Wrote log → is_written e.needs b i ≡ true → logged log (cell.Buffer b i) ≡ Some v → i < length (values_at l.made b) → element (in_order out l (take (suc j) entries)) b i ≡ Some v }
+    ensures closed { (out : OutcomeOf) (l : Ledger) (entries : List Entry) (j b i t a : ℕ) (e : Entry) (n : Need) (v : ℤ) → slice_get entries j ≡ Some e → e.work ≡ Access t a → e.needs ≡ n ∷ [] → writes n.mode ≡ true → has_cell n b i ≡ true → slice_get (closed_with l.closings j) (i - n.from) ≡ Some v → i < length (values_at l.made b) → element (in_order out l (take (suc j) entries)) b i ≡ Some v }
 {}
 
 /// In each state of a legal sequence the buffers hold what the entries that are done leave when they
