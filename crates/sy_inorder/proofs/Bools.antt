@@ -28,10 +28,6 @@ pub not_true : (a : Bool) → not a ≡ true → a ≡ false
 not_true false h = refl
 not_true true h = let z : false ≡ true = h in cc
 
-pub not_false : (a : Bool) → not a ≡ false → a ≡ true
-not_false true h = refl
-not_false false h = let z : true ≡ false = h in cc
-
 -- of two that are not both true, one that is true shows the other false
 pub turned_round : (a b : Bool) → (a ≡ true → b ≡ false) → b ≡ true → a ≡ false
 turned_round false b h i = refl

@@ -1,6 +1,6 @@
 -- An entry as a change of elements.
-use Rattle.std.proofs.Common.{◌≡◌, ℕ, zero, suc, ◌+◌, ◌-◌, ◌<◌, ◌≤◌, ℤ, List, [], ◌∷◌, ◌++◌, length, take, drop, map, Bool, true, false, Option, Some, None, refl, sym, ap, ◌∙◌, subst, arith}
-use Rattle.std.specs.Prelude.{slice_get, slice_index_or, not, ◌&&◌, ◌||◌, if◌then◌else◌, unwrap_or}
+use Rattle.std.proofs.Common.{◌≡◌, ℕ, zero, suc, ◌+◌, ◌-◌, ◌<◌, ◌≤◌, ℤ, List, [], ◌∷◌, take, drop, map, Bool, true, false, Some, refl, sym, ap, ◌∙◌, arith}
+use Rattle.std.specs.Prelude.{slice_get, slice_index_or, ◌&&◌, ◌||◌, if◌then◌else◌, unwrap_or}
 use Rattle.std.specs.List.{list_any}
 use Rattle.std.proofs.lemmas.Bool.Decides.{nat_tests}
 use Rattle.std.proofs.lemmas.Option.{same_Some, none-some}
@@ -16,10 +16,10 @@ use Rattle.sy_onecopy.specs.declared.Work.{Work}
 use Rattle.sy_onecopy.specs.declared.Work.TheVariants.{Node, Access, End}
 use Rattle.sy_onecopy.specs.Each.{each_from}
 use Rattle.sy_onecopy.specs.Before.{meets_one, meets, meet}
-use Rattle.sy_onecopy.specs.Outcome.{is_written, writes_at, at_start, cell_after, buffer_after, buffers_after, inputs, input, run_of, values_at, values_of}
+use Rattle.sy_onecopy.specs.Outcome.{is_written, writes_at, at_start, cell_after, buffer_after, buffers_after, inputs, input, run_of, values_at}
 use Rattle.sy_onecopy.specs.Step.{cell_put, buffer_put}
-use Rattle.sy_inorder.specs.Story.{log_of, put, after_work, numbers_of, some_has, element}
-use Rattle.sy_inorder.proofs.Bools.{or_left, or_right, or_false, and_first, turned_round}
+use Rattle.sy_inorder.specs.Story.{log_of, put, after_work, some_has}
+use Rattle.sy_inorder.proofs.Bools.{or_left, or_right, or_false, turned_round}
 
 -- what happens to element i of buffer b
 abbrev pub CellChange : Type 0
@@ -231,8 +231,8 @@ pub left_inputs : (f : CellChange) (bs : List Buffer) (needs : List Need) → Le
 unfolding some_has
 left_inputs f bs needs h =
     same_inputs (over f bs) bs needs (λ k n g.
-        ap (λ l. run_of l n.from n.to) (values_over f bs n.buffer)
-        ∙ run_of-fixed (f n.buffer) n.from n.to (values_at bs n.buffer) (λ i x a b. h n.buffer i x (has_by needs k n n.buffer i g (in_need n i a b))))
+    ap (λ l. run_of l n.from n.to) (values_over f bs n.buffer)
+    ∙ run_of-fixed (f n.buffer) n.from n.to (values_at bs n.buffer) (λ i x a b. h n.buffer i x (has_by needs k n n.buffer i g (in_need n i a b))))
 
 -- ---- entries that do not meet commute
 

@@ -1,7 +1,7 @@
 -- How an ask changes the entries and the buffers.
-use Rattle.std.proofs.Common.{◌≡◌, ℕ, zero, suc, ◌+◌, ◌-◌, ◌<◌, ◌≤◌, ℤ, ◌⊎◌, inl, inr, List, [], ◌∷◌, ◌++◌, length, drop, map, Bool, true, false, Option, Some, None, refl, sym, ap, ◌∙◌, subst, arith}
+use Rattle.std.proofs.Common.{◌≡◌, ℕ, zero, suc, ◌+◌, ◌-◌, ◌<◌, ◌≤◌, ℤ, List, [], ◌∷◌, ◌++◌, length, Bool, true, false, Option, Some, None, refl, sym, ap, ◌∙◌, arith}
 use Rattle.std.specs.Prelude.{slice_get, not, ◌&&◌, ◌==◌, ◌^◌, nat_lt, nat_le, if◌then◌else◌}
-use Rattle.std.specs.List.{list_any, list_all}
+use Rattle.std.specs.List.{list_all}
 use Rattle.std.proofs.lemmas.Option.{same_Some, none-some}
 use Rattle.sy_access.specs.declared.access.Need.{Need}
 use Rattle.sy_access.specs.declared.access.Mode.TheVariants.{ReadWrite}
@@ -29,7 +29,7 @@ use Rattle.sy_onecopy.specs.State.{Board}
 use Rattle.sy_onecopy.specs.Before.{is_done}
 use Rattle.sy_onecopy.specs.Outcome.{values_at, values_of}
 use Rattle.sy_onecopy.specs.Settle.{with_stage}
-use Rattle.sy_onecopy.specs.Step.{printed, made_buffer, made_part, end_root, end_buffer, opened_host, put_back, closed, close_entry, close_at, close_found, made_context, made_queue, submitted, wait_if, thrown, throw_queue, spawned, apply, access_from, is_access, error_on, is_root, count_of, is_root_need, are_root_needs, are_different, are_below, has_needs, has_count, live_elements, holds_together, with_end, mark_ended, whole}
+use Rattle.sy_onecopy.specs.Step.{printed, made_buffer, made_part, end_root, end_buffer, opened_host, put_back, closed, close_entry, close_at, close_found, made_context, made_queue, submitted, wait_if, thrown, throw_queue, spawned, apply, access_from, is_access, error_on, is_root, count_of, is_root_need, are_root_needs, are_different, has_count, live_elements, holds_together, with_end}
 use Rattle.sy_inorder.specs.Story.{put, after_work, numbers_of}
 use Rattle.sy_inorder.specs.Ledger.{closing, closing_at, over_at}
 use Rattle.sy_inorder.proofs.Bools.{and_first, and_second}

@@ -1,9 +1,9 @@
 -- The end of a buffer over a vector gets what the story leaves.
-use Rattle.std.proofs.Common.{◌≡◌, ℕ, zero, suc, ◌+◌, ◌-◌, ◌<◌, ◌≤◌, ℤ, List, [], ◌∷◌, ◌++◌, length, take, drop, map, Bool, true, false, Option, Some, None, refl, sym, ap, ◌∙◌, subst, arith}
+use Rattle.std.proofs.Common.{◌≡◌, ℕ, zero, suc, ◌+◌, ◌-◌, ◌<◌, ℤ, List, [], ◌∷◌, ◌++◌, length, take, Bool, true, false, Option, Some, None, refl, sym, ap, ◌∙◌, subst, arith}
 use Rattle.std.specs.Prelude.{slice_get, ◌||◌, if◌then◌else◌}
 use Rattle.std.specs.List.{list_any}
 use Rattle.std.proofs.lemmas.Bool.Decides.{nat_tests}
-use Rattle.std.proofs.lemmas.Option.{same_Some, none-some, slice_get_within}
+use Rattle.std.proofs.lemmas.Option.{same_Some, slice_get_within}
 use Rattle.sy_access.specs.declared.access.Need.{Need}
 use Rattle.sy_access.specs.Needs.{has_cell}
 use Rattle.sy_work.specs.Programs.{OutcomeOf, Program}
@@ -19,18 +19,17 @@ use Rattle.sy_onecopy.specs.State.{Board, State, next_ask}
 use Rattle.sy_onecopy.specs.Before.{is_free}
 use Rattle.sy_onecopy.specs.Outcome.{values_at}
 use Rattle.sy_onecopy.specs.Settle.{with_stage, effect, settle_entry, settle_upto, settle, settle_one}
-use Rattle.sy_onecopy.specs.Step.{turn, give_all, given}
-use Rattle.sy_inorder.specs.Story.{numbers_of, some_has, element, story, is_over, is_any}
-use Rattle.sy_inorder.specs.Ledger.{Ledger, closed_with, asked, ledger_of, in_order, done_in_order}
+use Rattle.sy_onecopy.specs.Step.{turn, give_all}
+use Rattle.sy_inorder.specs.Story.{some_has, element, is_over, is_any}
+use Rattle.sy_inorder.specs.Ledger.{closed_with, asked, ledger_of, in_order, done_in_order}
 use Rattle.sy_inorder.specs.Effects.{TakesEffect, turned}
 use Rattle.sy_inorder.proofs.Places as places
 use Rattle.sy_inorder.proofs.Changes.{Fits, all_of}
 use Rattle.sy_inorder.proofs.Told.{tale, same_rows}
-use Rattle.sy_inorder.proofs.Kept.{Holds}
 use Rattle.sy_inorder.proofs.Running.{free_pending}
 use Rattle.sy_inorder.proofs.Sees.{story-rows, effect_board, effect_sees, element_view}
 use Rattle.sy_inorder.proofs.Granted.{due_stays, legal_there}
-use Rattle.sy_inorder.proofs.Waiting.{end_owner, IsOf, Waited, BoardWaited, Moves, effect_moves, effect_spares, asked_waited, upto_waited, legal_ready, seq_waited}
+use Rattle.sy_inorder.proofs.Waiting.{end_owner, BoardWaited, effect_moves, effect_spares, asked_waited, upto_waited, legal_ready, seq_waited}
 
 -- ---- the numbers
 
@@ -63,9 +62,9 @@ end_sees p order s t k u r e m h work =
     let holds = effect_board p order s t k e m h in
     let needs : e.needs ≡ all_of r (length (values_at m.buffers r)) ∷ [] = end_fits m.buffers e.work e.needs u r work (holds.sound k e h.there).fits in
     let long : length (values_at m.buffers r) ≡ length (values_at (in_order p.outcome l (take k m.entries)) r) =
-        ap length (same_rows m.buffers (done_in_order p.outcome l m.entries) holds.numbers r)
-        ∙ story-rows (tale p.outcome (closed_with l.closings) is_over) 0 m.entries l.made r
-        ∙ sym (story-rows (tale p.outcome (closed_with l.closings) is_any) 0 (take k m.entries) l.made r) in
+    ap length (same_rows m.buffers (done_in_order p.outcome l m.entries) holds.numbers r)
+    ∙ story-rows (tale p.outcome (closed_with l.closings) is_over) 0 m.entries l.made r
+    ∙ sym (story-rows (tale p.outcome (closed_with l.closings) is_any) 0 (take k m.entries) l.made r) in
     same_items (values_at m.buffers r) (values_at (in_order p.outcome l (take k m.entries)) r) long
     (λ i lt. effect_sees (λ bs. element bs r i) p order s t k e m (element_view e.needs r i (whole_has e.needs r (length (values_at m.buffers r)) i needs lt)) h)
 

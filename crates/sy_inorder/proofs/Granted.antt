@@ -1,6 +1,6 @@
 -- Accesses that only read are granted at once.
-use Rattle.std.proofs.Common.{◌≡◌, ℕ, zero, suc, ◌+◌, ◌<◌, ◌≤◌, ℤ, List, [], ◌∷◌, ◌++◌, length, take, drop, map, Bool, true, false, Option, Some, None, refl, sym, ap, ◌∙◌, subst, arith}
-use Rattle.std.specs.Prelude.{slice_get, slice_set, not, ◌&&◌, ◌||◌, if◌then◌else◌, option_map, nat_lt}
+use Rattle.std.proofs.Common.{◌≡◌, ℕ, zero, suc, ◌<◌, ◌≤◌, List, [], ◌∷◌, ◌++◌, length, take, map, Bool, true, false, Option, Some, None, refl, sym, ap, ◌∙◌, subst, arith}
+use Rattle.std.specs.Prelude.{slice_get, slice_set, not, ◌&&◌, if◌then◌else◌, option_map, nat_lt}
 use Rattle.std.proofs.lemmas.Option.{same_Some, none-some, slice_get-map, slice_get_within}
 use Rattle.sy_access.specs.declared.access.Need.{Need}
 use Rattle.sy_work.specs.Programs.{OutcomeOf, Program}
@@ -10,9 +10,9 @@ use Rattle.sy_work.specs.declared.asks.Answer.{Answer}
 use Rattle.sy_work.specs.declared.asks.Answer.TheVariants.{Contents}
 use Rattle.sy_onecopy.specs.declared.Entry.{Entry}
 use Rattle.sy_onecopy.specs.declared.Work.{Work}
-use Rattle.sy_onecopy.specs.declared.Work.TheVariants.{Node, Access, End}
+use Rattle.sy_onecopy.specs.declared.Work.TheVariants.{Access}
 use Rattle.sy_onecopy.specs.declared.Waits.{Waits}
-use Rattle.sy_onecopy.specs.declared.Waits.TheVariants.{Ready, Due, Never, OnEntry}
+use Rattle.sy_onecopy.specs.declared.Waits.TheVariants.{Due, Never, OnEntry}
 use Rattle.sy_onecopy.specs.State.{Board, State, Thread, new_thread, start, next_ask}
 use Rattle.sy_onecopy.specs.Before.{is_free, is_held, is_pending}
 use Rattle.sy_onecopy.specs.Laws.{IsSettled}
@@ -22,7 +22,7 @@ use Rattle.sy_onecopy.specs.Step.{grown, hear, hear_all, add_entry, access_entry
 use Rattle.sy_onecopy.specs.Sequence.{ready_at, is_legal, may_step, goes_on, is_clear, seq, seq_from}
 use Rattle.sy_onecopy.proofs.Settled.{settled}
 use Rattle.sy_inorder.specs.Effects.{turned}
-use Rattle.sy_inorder.specs.Ledger.{asked, ledger_of}
+use Rattle.sy_inorder.specs.Ledger.{asked}
 use Rattle.sy_inorder.specs.Reading.{all_keep_off, all_let_read, follows_none, only_reads}
 use Rattle.sy_inorder.proofs.Bools.{and_first, and_second}
 use Rattle.sy_inorder.proofs.Places as places
@@ -146,10 +146,10 @@ turn_due out b t n still there root reads let_read =
     let held : is_held b.entries e ≡ false = not_held b.entries e (keep_off b.entries e reads let_read) (follows_nothing b.entries e refl refl) in
     let pass : settle out c ≡ effect out c (length b.entries) e e.work = pass_last out c b.entries e refl (λ j x g. still j x g) (newly_free b.entries e c.entries refl refl held) in
     let long : t < length c.waits =
-        let x = length_slice_set (slice_set b.waits t Never) t OnEntry in
-        let y = length_slice_set b.waits t Never in omega (arith, there, x, y) in
+    let x = length_slice_set (slice_set b.waits t Never) t OnEntry in
+    let y = length_slice_set b.waits t Never in omega (arith, there, x, y) in
     let due : slice_get (settle out c).waits t ≡ Some (Due (Contents (first_of (inputs b.buffers (n ∷ []))))) =
-        ap (λ (d : Board). slice_get d.waits t) pass ∙ effect_due out c (length b.entries) t (accesses b.entries t) e long in
+    ap (λ (d : Board). slice_get d.waits t) pass ∙ effect_due out c (length b.entries) t (accesses b.entries t) e long in
     ap (λ d. slice_get (map (given (settle out d)) (settle out d).waits) t) (opened_is b t n root)
     ∙ due_stays (settle out c) (settle out c).waits t _ due
 

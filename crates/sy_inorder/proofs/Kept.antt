@@ -1,7 +1,7 @@
 -- What holds of the entries and the buffers all through a sequence of steps.
-use Rattle.std.proofs.Common.{◌≡◌, ℕ, zero, suc, ◌+◌, ◌<◌, ◌≤◌, ℤ, List, [], ◌∷◌, ◌++◌, length, take, drop, map, Bool, true, false, inl, inr, Option, Some, None, refl, sym, ap, ◌∙◌, subst, arith}
-use Rattle.std.specs.Prelude.{slice_get, not, ◌&&◌, ◌||◌, ◌==◌, nat_eq, if◌then◌else◌}
-use Rattle.std.proofs.lemmas.Option.{same_Some, none-some, slice_get_within}
+use Rattle.std.proofs.Common.{◌≡◌, ℕ, zero, suc, ◌+◌, ◌<◌, ◌≤◌, ℤ, List, [], ◌∷◌, ◌++◌, length, drop, Bool, true, false, inl, inr, Option, Some, refl, sym, ap, ◌∙◌, subst, arith}
+use Rattle.std.specs.Prelude.{slice_get, ◌||◌, ◌==◌, if◌then◌else◌}
+use Rattle.std.proofs.lemmas.Option.{same_Some, slice_get_within}
 use Rattle.std.proofs.lemmas.List.{append-nil, map-append}
 use Rattle.std.proofs.lemmas.Bool.Decides.{nat_tests}
 use Rattle.sy_access.specs.declared.access.Need.{Need}
@@ -16,12 +16,12 @@ use Rattle.sy_onecopy.specs.Each.{changed_at}
 use Rattle.sy_onecopy.specs.Before.{before, meet, meets, is_done, is_pending, is_named, both_on}
 use Rattle.sy_onecopy.specs.Outcome.{values_at}
 use Rattle.sy_onecopy.specs.Settle.{with_stage}
-use Rattle.sy_inorder.specs.Story.{after_work, numbers_of, story, told, is_over, is_any}
+use Rattle.sy_inorder.specs.Story.{after_work, numbers_of, story, is_over}
 use Rattle.sy_inorder.specs.Ledger.{Ledger, closed_with, done_in_order}
 use Rattle.sy_inorder.proofs.Bools.{or_left}
-use Rattle.sy_inorder.proofs.Places.{last_or, changed_or, WasAt}
+use Rattle.sy_inorder.proofs.Places.{last_or, changed_or}
 use Rattle.sy_inorder.proofs.Places.WasAt.{kept, changed}
-use Rattle.sy_inorder.proofs.Changes.{AreNamed, Fits, StandsAlone, IsSound, Change, all_of}
+use Rattle.sy_inorder.proofs.Changes.{AreNamed, Fits, IsSound, Change, all_of}
 use Rattle.sy_inorder.proofs.Changes.Change.{quiet, wider, added, shut}
 use Rattle.sy_inorder.proofs.Told.{tale, Ordered, one_more, still_open, now_done, same_rows, same_after, length_after, row_after, wider_rows, wider_story}
 
@@ -120,10 +120,10 @@ wider_holds : (out : OutcomeOf) (l : Ledger) (es : List Entry) (bs : List Buffer
 unfolding with_made
 wider_holds out l es bs x h = record {
   numbers =
-    map-append (λ (y : Buffer). y.values) bs (x ∷ [])
-    ∙ ap (λ n. n ++ x.values ∷ []) h.numbers
-    ∙ sym (map-append (λ (y : Buffer). y.values) (done_in_order out l es) (x ∷ []))
-    ∙ ap numbers_of (sym (wider_story (tale out (closed_with l.closings) is_over) 0 es l.made x (λ j e g. subst (λ n. AreNamed n e.needs) (sym h.count) (h.sound j e g).named)));
+      map-append (λ (y : Buffer). y.values) bs (x ∷ [])
+      ∙ ap (λ n. n ++ x.values ∷ []) h.numbers
+      ∙ sym (map-append (λ (y : Buffer). y.values) (done_in_order out l es) (x ∷ []))
+      ∙ ap numbers_of (sym (wider_story (tale out (closed_with l.closings) is_over) 0 es l.made x (λ j e g. subst (λ n. AreNamed n e.needs) (sym h.count) (h.sound j e g).named)));
   count = length_more l.made x ∙ ap suc h.count ∙ sym (length_more bs x);
   none_overtakes = h.none_overtakes;
   sound = λ k e g. sound_more bs (bs ++ x ∷ []) e.needs e.work e.after e.in_order (wider_extends bs x) (h.sound k e g);
@@ -140,19 +140,19 @@ pending_open e h = not_over e h e.stage refl
 
 added_overtakes : (es : List Entry) (e : Entry) → is_pending e.stage ≡ true → NoneOvertakes es → NoneOvertakes (es ++ e ∷ [])
 added_overtakes es e p h i j x y lt a b c d = elim (last_or es e j y b) [
-    | inr last ↦ let z : true ≡ false = sym p ∙ ap (λ k. is_pending k.stage) last.1 ∙ d in absurd cc
-    | inl old ↦ elim (last_or es e i x a) [
-        | inl older ↦ h i j x y lt older old c d
-        | inr last ↦ let n = slice_get_within es j y old in absurd (omega (arith, lt, n, last.0))
-      ]
+  | inr last ↦ let z : true ≡ false = sym p ∙ ap (λ k. is_pending k.stage) last.1 ∙ d in absurd cc
+  | inl old ↦ elim (last_or es e i x a) [
+    | inl older ↦ h i j x y lt older old c d
+    | inr last ↦ let n = slice_get_within es j y old in absurd (omega (arith, lt, n, last.0))
   ]
+]
 
 added_holds : (out : OutcomeOf) (l : Ledger) (es : List Entry) (bs : List Buffer) (e : Entry) → is_pending e.stage ≡ true → IsSound bs e.needs e.work e.after e.in_order → Holds out l es bs → Holds out l (es ++ e ∷ []) bs
 added_holds out l es bs e p s h = record {
   numbers =
-    h.numbers
-    ∙ ap numbers_of (sym (one_more (tale out (closed_with l.closings) is_over) 0 es e l.made
-        ∙ ap (λ v. if v then after_work out (closed_with l.closings (0 + length es)) e.needs e.work (done_in_order out l es) else done_in_order out l es) (pending_open e p)));
+      h.numbers
+      ∙ ap numbers_of (sym (one_more (tale out (closed_with l.closings) is_over) 0 es e l.made
+      ∙ ap (λ v. if v then after_work out (closed_with l.closings (0 + length es)) e.needs e.work (done_in_order out l es) else done_in_order out l es) (pending_open e p)));
   count = h.count;
   none_overtakes = added_overtakes es e p h.none_overtakes;
   sound = λ k x g. elim (last_or es e k x g) [
@@ -175,25 +175,25 @@ NothingBefore es k e = (i : ℕ) (x : Entry) → i < k → slice_get es i ≡ So
 
 changed_overtakes : (es : List Entry) (k : ℕ) (e : Entry) (s : Stage) → slice_get es k ≡ Some e → is_done e.stage ≡ false → NothingBefore es k e → NoneOvertakes es → NoneOvertakes (changed_at (with_stage s) k es)
 changed_overtakes es k e s at live free h i j x y lt a b c d = elim (changed_or (with_stage s) k es i x a) [
-    | kept oa na ↦ elim (changed_or (with_stage s) k es j y b) [
-        | kept ob nb ↦ h i j x y lt oa ob c d
-        | changed z jk gk fz ↦
-            let z_is : z ≡ e = same_Some z e (sym gk ∙ at) in
-            ap (before x) (sym fz) ∙ before_same s x z ∙ ap (before x) z_is ∙ free i x (omega (arith, lt, jk)) oa c
-      ]
-    | changed z ik gk fz ↦ elim (changed_or (with_stage s) k es j y b) [
-        | kept ob nb ↦
-            let z_is : z ≡ e = same_Some z e (sym gk ∙ at) in
-            ap (λ w. before w y) (sym fz) ∙ before_same_by s z y ∙ ap (λ w. before w y) z_is ∙ h k j e y (omega (arith, lt, ik)) at ob live d
-        | changed w jk gj fw ↦ absurd (omega (arith, lt, ik, jk))
-      ]
+  | kept oa na ↦ elim (changed_or (with_stage s) k es j y b) [
+    | kept ob nb ↦ h i j x y lt oa ob c d
+    | changed z jk gk fz ↦
+        let z_is : z ≡ e = same_Some z e (sym gk ∙ at) in
+        ap (before x) (sym fz) ∙ before_same s x z ∙ ap (before x) z_is ∙ free i x (omega (arith, lt, jk)) oa c
   ]
+  | changed z ik gk fz ↦ elim (changed_or (with_stage s) k es j y b) [
+    | kept ob nb ↦
+        let z_is : z ≡ e = same_Some z e (sym gk ∙ at) in
+        ap (λ w. before w y) (sym fz) ∙ before_same_by s z y ∙ ap (λ w. before w y) z_is ∙ h k j e y (omega (arith, lt, ik)) at ob live d
+    | changed w jk gj fw ↦ absurd (omega (arith, lt, ik, jk))
+  ]
+]
 
 changed_sound : (es : List Entry) (bs cs : List Buffer) (k : ℕ) (s : Stage) → Extends bs cs → ((j : ℕ) (x : Entry) → slice_get es j ≡ Some x → IsSound bs x.needs x.work x.after x.in_order) → (j : ℕ) (x : Entry) → slice_get (changed_at (with_stage s) k es) j ≡ Some x → IsSound cs x.needs x.work x.after x.in_order
 changed_sound es bs cs k s w h j x g = elim (changed_or (with_stage s) k es j x g) [
-    | kept old n ↦ sound_more bs cs x.needs x.work x.after x.in_order w (h j x old)
-    | changed z jk gk fz ↦ subst (λ (y : Entry). IsSound cs y.needs y.work y.after y.in_order) fz (sound_more bs cs z.needs z.work z.after z.in_order w (h k z gk))
-  ]
+  | kept old n ↦ sound_more bs cs x.needs x.work x.after x.in_order w (h j x old)
+  | changed z jk gk fz ↦ subst (λ (y : Entry). IsSound cs y.needs y.work y.after y.in_order) fz (sound_more bs cs z.needs z.work z.after z.in_order w (h k z gk))
+]
 
 pub granted_holds : (out : OutcomeOf) (l : Ledger) (es : List Entry) (bs : List Buffer) (k : ℕ) (e : Entry) → slice_get es k ≡ Some e → is_done e.stage ≡ false → NothingBefore es k e → Holds out l es bs → Holds out l (changed_at (with_stage Granted) k es) bs
 granted_holds out l es bs k e at live free h = record {
@@ -206,13 +206,13 @@ granted_holds out l es bs k e at live free h = record {
 pub done_holds : (out : OutcomeOf) (l m : Ledger) (es : List Entry) (bs cs : List Buffer) (k : ℕ) (e : Entry) (s : Stage) → slice_get es k ≡ Some e → is_done e.stage ≡ false → NothingBefore es k e → is_done s ≡ true → m.made ≡ l.made → ((j : ℕ) → (j ≡ k → ⊥) → closed_with m.closings j ≡ closed_with l.closings j) → cs ≡ after_work out (closed_with m.closings k) e.needs e.work bs → Holds out l es bs → Holds out m (changed_at (with_stage s) k es) cs
 done_holds out l m es bs cs k e s at live free over made same p h = record {
   numbers =
-    let given = closed_with m.closings in
-    let place : 0 + k ≡ k = omega arith in
-    ap numbers_of p
-    ∙ same_after out (given k) e.needs e.work bs (done_in_order out l es) h.numbers
-    ∙ ap (λ j. numbers_of (after_work out (given j) e.needs e.work (done_in_order out l es))) (sym place)
-    ∙ ap numbers_of (sym (now_done out (closed_with l.closings) given 0 k es e s l.made at live over (λ j n. same j (λ q. n (q ∙ sym place))) (λ j y lt g d. ordered es h.none_overtakes k j e y lt at g live d)))
-    ∙ ap (λ b. numbers_of (story (tale out given is_over) 0 (changed_at (with_stage s) k es) b)) (sym made);
+      let given = closed_with m.closings in
+      let place : 0 + k ≡ k = omega arith in
+      ap numbers_of p
+      ∙ same_after out (given k) e.needs e.work bs (done_in_order out l es) h.numbers
+      ∙ ap (λ j. numbers_of (after_work out (given j) e.needs e.work (done_in_order out l es))) (sym place)
+      ∙ ap numbers_of (sym (now_done out (closed_with l.closings) given 0 k es e s l.made at live over (λ j n. same j (λ q. n (q ∙ sym place))) (λ j y lt g d. ordered es h.none_overtakes k j e y lt at g live d)))
+      ∙ ap (λ b. numbers_of (story (tale out given is_over) 0 (changed_at (with_stage s) k es) b)) (sym made);
   count = ap length made ∙ h.count ∙ sym (ap length p ∙ length_after out (closed_with m.closings k) e.needs e.work bs);
   none_overtakes = changed_overtakes es k e s at live free h.none_overtakes;
   sound = changed_sound es bs cs k s (subst (Extends bs) (sym p) (after_extends out (closed_with m.closings k) e.needs e.work bs)) h.sound;
@@ -254,8 +254,8 @@ nothing_noted : (l : Ledger) (bs cs : List Buffer) (closes : List (ℕ × List �
 unfolding with_parts
 nothing_noted l bs cs closes h r =
     sym (ap (λ d. with_parts (l.made ++ d) (closes ++ l.closings)) (drop_all cs (length bs) h)
-        ∙ ap (λ d. with_parts d (closes ++ l.closings)) (append-nil l.made)
-        ∙ ap (λ c. with_parts l.made (c ++ l.closings)) r)
+    ∙ ap (λ d. with_parts d (closes ++ l.closings)) (append-nil l.made)
+    ∙ ap (λ c. with_parts l.made (c ++ l.closings)) r)
 
 pub change_holds : (out : OutcomeOf) (l : Ledger) (es fs : List Entry) (bs cs : List Buffer) (closes : List (ℕ × List ℤ)) → Change es fs bs cs closes → Holds out l es bs → Holds out (after_change l bs cs closes) fs cs
 unfolding with_parts with_made
@@ -263,7 +263,7 @@ change_holds out l es fs bs cs closes (quiet p q r) h =
     moved out l (after_change l bs cs closes) es fs cs cs (nothing_noted l bs cs closes (same_length bs cs q) r) (sym p) refl (quiet_holds out l es bs cs q h)
 change_holds out l es fs bs cs closes (wider x p q r) h =
     let m : with_made l (l.made ++ x ∷ []) ≡ after_change l bs cs closes =
-        ap (λ d. with_parts (l.made ++ d) l.closings) (sym (ap (drop (length bs)) q ∙ drop_front bs x)) ∙ ap (λ c. with_parts (l.made ++ drop (length bs) cs) (c ++ l.closings)) (sym r) in
+    ap (λ d. with_parts (l.made ++ d) l.closings) (sym (ap (drop (length bs)) q ∙ drop_front bs x)) ∙ ap (λ c. with_parts (l.made ++ drop (length bs) cs) (c ++ l.closings)) (sym r) in
     moved out (with_made l (l.made ++ x ∷ [])) (after_change l bs cs closes) es fs (bs ++ x ∷ []) cs m (sym p) (sym q) (wider_holds out l es bs x h)
 change_holds out l es fs bs cs closes (added e t s p q r) h =
     let now = quiet_holds out l es bs cs q h in
@@ -272,10 +272,10 @@ change_holds out l es fs bs cs closes (added e t s p q r) h =
 change_holds out l es fs bs cs closes (shut k e values at t p q r) h =
     let m = with_parts l.made ((k, values) ∷ l.closings) in
     let new : m ≡ after_change l bs cs closes =
-        ap (λ d. with_parts d ((k, values) ∷ l.closings)) (sym (ap (λ d. l.made ++ d) (drop_all cs (length bs) (ap length (q out) ∙ length_after out values e.needs e.work bs)) ∙ append-nil l.made))
-        ∙ ap (λ c. with_parts (l.made ++ drop (length bs) cs) (c ++ l.closings)) (sym r) in
+    ap (λ d. with_parts d ((k, values) ∷ l.closings)) (sym (ap (λ d. l.made ++ d) (drop_all cs (length bs) (ap length (q out) ∙ length_after out values e.needs e.work bs)) ∙ append-nil l.made))
+    ∙ ap (λ c. with_parts (l.made ++ drop (length bs) cs) (c ++ l.closings)) (sym r) in
     let put_here : values ≡ closed_with m.closings k = ap (λ v. if v then values else closed_with l.closings k) (sym (same_place k)) in
     moved out m (after_change l bs cs closes) (changed_at (with_stage Done) k es) fs cs cs new (sym p) refl
     (done_holds out l m es bs cs k e Done at (ap is_done t) (λ i x lt g d. h.none_overtakes i k x e lt g at d (ap is_pending t)) refl refl
-        (λ j n. ap (λ v. if v then values else closed_with l.closings j) (other_place k j n))
-        (q out ∙ ap (λ v. after_work out v e.needs e.work bs) put_here) h)
+    (λ j n. ap (λ v. if v then values else closed_with l.closings j) (other_place k j n))
+    (q out ∙ ap (λ v. after_work out v e.needs e.work bs) put_here) h)

@@ -1,10 +1,10 @@
 -- Members of lists by their places.
-use Rattle.std.proofs.Common.{◌≡◌, ℕ, zero, suc, ◌+◌, ◌<◌, ◌≤◌, ◌⊎◌, inl, inr, List, [], ◌∷◌, ◌++◌, length, take, drop, map, Bool, true, false, Option, Some, None, refl, sym, ap, ◌∙◌, subst, arith}
-use Rattle.std.specs.Prelude.{slice_get, slice_set, option_map, ◌||◌}
-use Rattle.std.specs.List.{list_any, list_all}
+use Rattle.std.proofs.Common.{◌≡◌, ℕ, zero, suc, ◌+◌, ◌<◌, ◌≤◌, ◌⊎◌, inl, inr, List, [], ◌∷◌, ◌++◌, length, take, drop, Bool, false, Some, None, refl, ap, ◌∙◌, subst, arith}
+use Rattle.std.specs.Prelude.{slice_get, slice_set, option_map}
+use Rattle.std.specs.List.{list_any}
 use Rattle.std.proofs.lemmas.Option.{same_Some, none-some}
 use Rattle.sy_onecopy.specs.Each.{changed_at}
-use Rattle.sy_inorder.proofs.Bools.{or_left, or_right, and_first, and_second}
+use Rattle.sy_inorder.proofs.Bools.{or_left, or_right}
 
 -- a member of a list with one more at the end is one of the list or the last
 pub last_or : {A : Type 0} (xs : List A) (e : A) (k : ℕ) (y : A) → slice_get (xs ++ e ∷ []) k ≡ Some y → (slice_get xs k ≡ Some y) ⊎ ((k ≡ length xs) × (e ≡ y))
@@ -38,9 +38,9 @@ changed_or f zero (x ∷ xs) zero y h = changed x refl refl (same_Some (f x) y h
 changed_or f zero (x ∷ xs) (suc j) y h = kept h (λ e. omega (arith, e))
 changed_or f (suc k) (x ∷ xs) zero y h = kept h (λ e. omega (arith, e))
 changed_or f (suc k) (x ∷ xs) (suc j) y h = elim (changed_or f k xs j y h) [
-    | kept a n ↦ kept a (λ e. n (omega (arith, e)))
-    | changed z a b c ↦ changed z (ap suc a) b c
-  ]
+  | kept a n ↦ kept a (λ e. n (omega (arith, e)))
+  | changed z a b c ↦ changed z (ap suc a) b c
+]
 
 pub changed_get : {A : Type 0} (f : A → A) (k : ℕ) (xs : List A) (x : A) → slice_get xs k ≡ Some x → slice_get (changed_at f k xs) k ≡ Some (f x)
 changed_get f k [] x h = absurd (none-some x h)
@@ -75,11 +75,6 @@ pub none_at : {A : Type 0} (f : A → Bool) (xs : List A) (i : ℕ) (x : A) → 
 none_at f [] i x h g = absurd (none-some x g)
 none_at f (y ∷ xs) zero x h g = subst (λ z. f z ≡ false) (same_Some y x g) (or_left (f y) (list_any f xs) h)
 none_at f (y ∷ xs) (suc i) x h g = none_at f xs i x (or_right (f y) (list_any f xs) h) g
-
-pub all_at : {A : Type 0} (f : A → Bool) (xs : List A) (i : ℕ) (x : A) → list_all f xs ≡ true → slice_get xs i ≡ Some x → f x ≡ true
-all_at f [] i x h g = absurd (none-some x g)
-all_at f (y ∷ xs) zero x h g = subst (λ z. f z ≡ true) (same_Some y x g) (and_first (f y) (list_all f xs) h)
-all_at f (y ∷ xs) (suc i) x h g = all_at f xs i x (and_second (f y) (list_all f xs) h) g
 
 -- a place of a list that has been set
 pub set_same : {A : Type 0} (xs : List A) (k : ℕ) (y : A) → k < length xs → slice_get (slice_set xs k y) k ≡ Some y

@@ -1,14 +1,12 @@
 -- Entries that only read are not before one another.
-use Rattle.std.proofs.Common.{◌≡◌, ℕ, zero, suc, ◌<◌, List, [], ◌∷◌, take, Bool, true, false, Option, Some, None, refl, sym, ap, ◌∙◌, subst, arith}
-use Rattle.std.specs.Prelude.{◌&&◌, ◌||◌, not, slice_get}
+use Rattle.std.proofs.Common.{◌≡◌, ℕ, List, [], ◌∷◌, Bool, true, false, Option, Some, None, refl, ap, ◌∙◌, arith}
+use Rattle.std.specs.Prelude.{◌&&◌, ◌||◌, not}
 use Rattle.std.specs.List.{list_any, list_all}
 use Rattle.sy_access.specs.declared.access.Need.{Need}
-use Rattle.sy_access.specs.Needs.{conflict, is_apart, writes, shares}
+use Rattle.sy_access.specs.Needs.{conflict, is_apart, writes}
 use Rattle.sy_onecopy.specs.declared.Entry.{Entry}
-use Rattle.sy_onecopy.specs.declared.Work.{Work}
-use Rattle.sy_onecopy.specs.Before.{meets_one, meets, meet, before, is_named, both_on, blocks, is_held, is_done, is_node}
+use Rattle.sy_onecopy.specs.Before.{meets_one, meets, meet, before, is_named, both_on, blocks, is_held, is_done}
 use Rattle.sy_inorder.specs.Reading.{only_reads, lets_read, all_let_read, all_keep_off, follows, follows_none}
-use Rattle.sy_onecopy.proofs.Settled.{settled}
 use Rattle.sy_inorder.proofs.Bools.{and_first, and_second, and_true, not_true, or_false}
 
 none_writes : (a b : Need) (p q : ℕ) → writes a.mode ≡ false → writes b.mode ≡ false → meets_one a p q b ≡ false

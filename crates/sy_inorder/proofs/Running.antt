@@ -1,22 +1,19 @@
 -- What holds in each state of a sequence of steps, and on each board of a pass.
-use Rattle.std.proofs.Common.{◌≡◌, ℕ, zero, suc, ◌+◌, ◌<◌, ◌≤◌, ℤ, List, [], ◌∷◌, ◌++◌, length, take, drop, Bool, true, false, Option, Some, None, refl, sym, ap, ◌∙◌, subst, arith}
-use Rattle.std.specs.Prelude.{slice_get, not, ◌&&◌, ◌||◌, if◌then◌else◌}
+use Rattle.std.proofs.Common.{◌≡◌, ℕ, zero, suc, List, [], ◌∷◌, length, take, Bool, true, false, Option, Some, None, refl, sym, ap, ◌∙◌, subst}
+use Rattle.std.specs.Prelude.{slice_get, not, ◌&&◌, if◌then◌else◌}
 use Rattle.std.specs.List.{list_any}
 use Rattle.std.proofs.lemmas.Option.{same_Some, none-some}
-use Rattle.sy_access.specs.declared.access.Need.{Need}
 use Rattle.sy_work.specs.Programs.{OutcomeOf, Program}
 use Rattle.sy_work.specs.declared.commands.Outcome.{Outcome}
 use Rattle.sy_work.specs.declared.commands.Outcome.TheVariants.{Wrote, Failed as CommandFailed}
-use Rattle.sy_onecopy.specs.declared.Buffer.{Buffer}
 use Rattle.sy_onecopy.specs.declared.Entry.{Entry}
 use Rattle.sy_onecopy.specs.declared.Work.{Work}
 use Rattle.sy_onecopy.specs.declared.Work.TheVariants.{Node, Access, End}
-use Rattle.sy_onecopy.specs.declared.Stage.{Stage}
-use Rattle.sy_onecopy.specs.declared.Stage.TheVariants.{Pending, Granted, Done, Failed}
+use Rattle.sy_onecopy.specs.declared.Stage.TheVariants.{Done, Failed}
 use Rattle.sy_onecopy.specs.State.{Board, State, start, next_ask}
 use Rattle.sy_onecopy.specs.Before.{before, is_free, is_held, blocks, is_done, is_pending}
 use Rattle.sy_onecopy.specs.Outcome.{inputs, buffers_after}
-use Rattle.sy_onecopy.specs.Settle.{took, effect, settle_entry, settle_upto, settle}
+use Rattle.sy_onecopy.specs.Settle.{took, effect, settle_entry, settle_upto}
 use Rattle.sy_onecopy.specs.Step.{begun, give_all, turn, step}
 use Rattle.sy_onecopy.specs.Sequence.{is_legal, seq, seq_from}
 use Rattle.sy_inorder.specs.Story.{after_work, log_of}
@@ -25,7 +22,7 @@ use Rattle.sy_inorder.proofs.Bools.{and_first, and_second, not_true}
 use Rattle.sy_inorder.proofs.Places.{none_at}
 use Rattle.sy_inorder.proofs.Places as places
 use Rattle.sy_inorder.proofs.Changes.{apply-change}
-use Rattle.sy_inorder.proofs.Kept.{Holds, NothingBefore, pending_open, granted_holds, done_holds, after_change, change_holds}
+use Rattle.sy_inorder.proofs.Kept.{Holds, NothingBefore, pending_open, granted_holds, done_holds, change_holds}
 
 not_before : (x y : Entry) → is_done x.stage ≡ false → blocks y x ≡ false → before x y ≡ false
 unfolding blocks

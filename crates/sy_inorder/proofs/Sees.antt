@@ -1,34 +1,30 @@
 -- What an entry is given is what the story of all entries before it leaves.
-use Rattle.std.proofs.Common.{◌≡◌, ℕ, zero, suc, ◌+◌, ◌<◌, ◌≤◌, ℤ, List, [], ◌∷◌, ◌++◌, length, take, drop, Bool, true, false, Option, Some, None, refl, sym, ap, ◌∙◌, subst, arith}
-use Rattle.std.specs.Prelude.{slice_get, not, ◌&&◌, ◌||◌, if◌then◌else◌, option_map, unwrap_or, slice_index_or, ◌-◌}
-use Rattle.std.specs.List.{list_any}
+use Rattle.std.proofs.Common.{◌≡◌, ℕ, zero, suc, ◌+◌, ◌<◌, ℤ, List, [], ◌∷◌, ◌++◌, length, take, drop, Bool, true, false, Some, refl, sym, ap, ◌∙◌, subst, arith}
+use Rattle.std.specs.Prelude.{slice_get, not, ◌||◌, if◌then◌else◌, option_map, unwrap_or, slice_index_or, ◌-◌}
 use Rattle.std.proofs.lemmas.Option.{same_Some, none-some, slice_get_within, get_or_from_slice_get}
 use Rattle.sy_access.specs.declared.access.Need.{Need}
 use Rattle.sy_access.specs.declared.cells.Cell.{Cell}
 use Rattle.sy_access.specs.declared.cells.Cell.TheVariants as cell
 use Rattle.sy_access.specs.Logs.{logged}
 use Rattle.sy_access.specs.Needs.{has_cell, writes}
-use Rattle.sy_work.specs.Programs.{OutcomeOf, Program, Input}
+use Rattle.sy_work.specs.Programs.{OutcomeOf, Program}
 use Rattle.sy_work.specs.declared.commands.Command.{Command}
-use Rattle.sy_work.specs.declared.commands.Outcome.{Outcome}
 use Rattle.sy_work.specs.declared.commands.Outcome.TheVariants.{Wrote}
 use Rattle.sy_onecopy.specs.declared.Buffer.{Buffer}
 use Rattle.sy_onecopy.specs.declared.Entry.{Entry}
-use Rattle.sy_onecopy.specs.declared.Work.{Work}
 use Rattle.sy_onecopy.specs.declared.Work.TheVariants.{Node, Access}
 use Rattle.sy_onecopy.specs.State.{Board, State, start, next_ask}
-use Rattle.sy_onecopy.specs.Before.{before, meet, is_named, both_on, is_free, is_done}
+use Rattle.sy_onecopy.specs.Before.{before, meet, is_named, both_on, is_done}
 use Rattle.sy_onecopy.specs.Outcome.{inputs, is_written, at_start, cell_after, buffer_after, buffers_after, values_at}
-use Rattle.sy_onecopy.specs.Settle.{settle_upto}
 use Rattle.sy_onecopy.specs.Each.{each_from}
 use Rattle.sy_onecopy.specs.Step.{buffer_put, cell_put, step}
-use Rattle.sy_onecopy.specs.Sequence.{is_legal, seq, seq_from}
+use Rattle.sy_onecopy.specs.Sequence.{is_legal, seq_from}
 use Rattle.sy_inorder.specs.Story.{put, after_work, log_of, numbers_of, some_has, some_writes, element, Telling, told, story, is_over, is_any}
 use Rattle.sy_inorder.specs.Ledger.{Ledger, closed_with, asked, noted, empty, ledger_from, ledger_of, in_order, done_in_order}
 use Rattle.sy_inorder.specs.Effects.{TakesEffect}
 use Rattle.sy_inorder.proofs.Bools.{or_left}
 use Rattle.sy_inorder.proofs.Places as places
-use Rattle.sy_inorder.proofs.Cells.{over, later_spares, earlier_spares}
+use Rattle.sy_inorder.proofs.Cells.{later_spares, earlier_spares}
 use Rattle.sy_inorder.proofs.Told.{tale, EachTold, Ordered, is_open, parted, story-element, story-inputs, element-over, cut, one_more, same_needs, same_rows, row_after}
 use Rattle.sy_inorder.proofs.Kept.{Holds, NothingBefore, ordered, pending_open}
 use Rattle.sy_inorder.proofs.Running.{BoardHolds, free_pending, free_before, upto_holds, asked_holds, one_legal, seq_holds}

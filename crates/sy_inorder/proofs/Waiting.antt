@@ -1,6 +1,6 @@
 -- A thread with a pending entry waits for it, and has no other.
-use Rattle.std.proofs.Common.{◌≡◌, ℕ, zero, suc, ◌+◌, ◌-◌, ◌<◌, ◌≤◌, ℤ, ◌⊎◌, inl, inr, List, [], ◌∷◌, ◌++◌, length, take, drop, map, Bool, true, false, Option, Some, None, refl, sym, ap, ◌∙◌, subst, arith}
-use Rattle.std.specs.Prelude.{slice_get, slice_set, not, ◌&&◌, ◌==◌, ◌^◌, nat_lt, nat_le, if◌then◌else◌, option_map}
+use Rattle.std.proofs.Common.{◌≡◌, ℕ, zero, suc, ◌+◌, ◌-◌, ◌<◌, ℤ, inl, inr, List, [], ◌∷◌, ◌++◌, length, map, Bool, true, false, Option, Some, None, refl, sym, ap, ◌∙◌, subst, arith}
+use Rattle.std.specs.Prelude.{slice_get, slice_set, ◌&&◌, ◌==◌, ◌^◌, nat_lt, nat_le, if◌then◌else◌, option_map}
 use Rattle.std.proofs.lemmas.Option.{same_Some, none-some, slice_get-map, slice_get_within}
 use Rattle.sy_access.specs.declared.access.Need.{Need}
 use Rattle.sy_access.specs.Needs.{writes}
@@ -8,7 +8,6 @@ use Rattle.sy_range.specs.LinearIds.{product}
 use Rattle.sy_work.specs.Programs.{OutcomeOf, Program}
 use Rattle.sy_work.specs.declared.asks.Ask.{Ask}
 use Rattle.sy_work.specs.declared.asks.Ask.TheVariants.{Print, MakeBuffer, MakeSub, EndBuffer, OpenHost, CloseHost, MakeContext, MakeQueue, Submit, WaitNode, WaitQueue, ThrowQueue, Spawn, Join, Finish, Halt, Barrier, Collect}
-use Rattle.sy_work.specs.declared.asks.Answer.{Answer}
 use Rattle.sy_work.specs.declared.asks.Answer.TheVariants.{Done as Answered}
 use Rattle.sy_work.specs.declared.asks.NewBuffer.{NewBuffer}
 use Rattle.sy_work.specs.declared.asks.NewQueue.{NewQueue}
@@ -26,7 +25,7 @@ use Rattle.sy_onecopy.specs.declared.Work.TheVariants.{Node, Access, End}
 use Rattle.sy_onecopy.specs.declared.Stage.{Stage}
 use Rattle.sy_onecopy.specs.declared.Stage.TheVariants as stage
 use Rattle.sy_onecopy.specs.declared.Waits.{Waits}
-use Rattle.sy_onecopy.specs.declared.Waits.TheVariants.{Ready, Due, OnEntry, OnNode, OnQueue, OnThread, Never, Finished}
+use Rattle.sy_onecopy.specs.declared.Waits.TheVariants.{Ready, Due, OnEntry, Never}
 use Rattle.sy_onecopy.specs.Each.{changed_at}
 use Rattle.sy_onecopy.specs.State.{Board, State, start, next_ask}
 use Rattle.sy_onecopy.specs.Before.{is_free, is_pending}
@@ -141,9 +140,9 @@ submitted-turn b t s (Some x) = either (holds_together b s) t b _ b (nobodys t b
 
 closed_old : (es : List Entry) (k : ℕ) (s : Stage) → is_pending s ≡ false → NoneNew es (changed_at (with_stage s) k es)
 closed_old es k s p j e g h = elim (places.changed_or (with_stage s) k es j e g) [
-    | kept old n ↦ old
-    | changed z jk gk fz ↦ let w : true ≡ false = sym h ∙ ap (λ x. is_pending x.stage) (sym fz) ∙ p in absurd cc
-  ]
+  | kept old n ↦ old
+  | changed z jk gk fz ↦ let w : true ≡ false = sym h ∙ ap (λ x. is_pending x.stage) (sym fz) ∙ p in absurd cc
+]
 
 put_entries : (v : Bool) (b c : Board) → c.entries ≡ b.entries → (if v then c else b).entries ≡ b.entries
 put_entries true b c h = h
@@ -160,7 +159,7 @@ closed-turn b t values k n =
     let ws = put_waits (writes n.mode) b _ refl in
     either (length values == n.to - n.from) t b _ b
     (no_entry (λ j e g p. closed_old b.entries k stage.Done refl j e (ap (λ l. slice_get (changed_at (with_stage stage.Done) k l) j) (sym es) ∙ g) p)
-        (λ u d h. ap (λ l. slice_get (slice_set l t (Due Answered)) u) ws ∙ others_set t b.waits _ u d h))
+    (λ u d h. ap (λ l. slice_get (slice_set l t (Due Answered)) u) ws ∙ others_set t b.waits _ u d h))
     (nothing t b)
 
 close_entry-turn : (b : Board) (t : ℕ) (values : List ℤ) (k : ℕ) (s : Stage) (ns : List Need) → Turns t b (close_entry b t values k s ns)
@@ -243,23 +242,23 @@ turned_waited t es fs ws vs (no_entry old others) none h =
       alone = λ i j u x y p q. h.alone i j u x y (back i u x p) (back j u y q);
     }
 turned_waited t es fs ws vs (an_entry e p awaits others) none h = subst (λ l. Waited l vs) (sym p) (record {
-    waits = λ k u x q. elim (places.last_or es e k x q.there) [
-      | inl old ↦
-          let was : IsOf es k u x = record { there = old; pending = q.pending; owned = q.owned } in
-          others u (λ same. none k x (subst (λ v. IsOf es k v x) same was)) (h.waits k u x was)
-      | inr last ↦ (awaits u (ap (λ y. owner y.work) last.1 ∙ q.owned)).1
-    ];
-    alone = λ i j u x y q r. elim (places.last_or es e i x q.there) [
-      | inl old ↦ elim (places.last_or es e j y r.there) [
-          | inl older ↦ h.alone i j u x y (record { there = old; pending = q.pending; owned = q.owned }) (record { there = older; pending = r.pending; owned = r.owned })
-          | inr last ↦ absurd (none i x (subst (λ v. IsOf es i v x) (awaits u (ap (λ z. owner z.work) last.1 ∙ r.owned)).0 (record { there = old; pending = q.pending; owned = q.owned })))
-        ]
-      | inr last ↦ elim (places.last_or es e j y r.there) [
-          | inl older ↦ absurd (none j y (subst (λ v. IsOf es j v y) (awaits u (ap (λ z. owner z.work) last.1 ∙ q.owned)).0 (record { there = older; pending = r.pending; owned = r.owned })))
-          | inr also ↦ last.0 ∙ sym also.0
-        ]
-    ];
-  })
+  waits = λ k u x q. elim (places.last_or es e k x q.there) [
+    | inl old ↦
+        let was : IsOf es k u x = record { there = old; pending = q.pending; owned = q.owned } in
+        others u (λ same. none k x (subst (λ v. IsOf es k v x) same was)) (h.waits k u x was)
+    | inr last ↦ (awaits u (ap (λ y. owner y.work) last.1 ∙ q.owned)).1
+  ];
+  alone = λ i j u x y q r. elim (places.last_or es e i x q.there) [
+    | inl old ↦ elim (places.last_or es e j y r.there) [
+      | inl older ↦ h.alone i j u x y (record { there = old; pending = q.pending; owned = q.owned }) (record { there = older; pending = r.pending; owned = r.owned })
+      | inr last ↦ absurd (none i x (subst (λ v. IsOf es i v x) (awaits u (ap (λ z. owner z.work) last.1 ∙ r.owned)).0 (record { there = old; pending = q.pending; owned = q.owned })))
+    ]
+    | inr last ↦ elim (places.last_or es e j y r.there) [
+      | inl older ↦ absurd (none j y (subst (λ v. IsOf es j v y) (awaits u (ap (λ z. owner z.work) last.1 ∙ q.owned)).0 (record { there = older; pending = r.pending; owned = r.owned })))
+      | inr also ↦ last.0 ∙ sym also.0
+    ]
+  ];
+})
 
 abbrev pub BoardWaited : Board → Type 0
 BoardWaited b = Waited b.entries b.waits
@@ -324,9 +323,9 @@ effect_moves out b k e (End t r) = record { new_stage = stage.Done; moved_on = r
 -- a pending entry after the move is an old one at another place
 moved_old : (k : ℕ) (es fs : List Entry) (j u : ℕ) (x : Entry) → Moves k es fs → IsOf fs j u x → (IsOf es j u x) × (j ≡ k → ⊥)
 moved_old k es fs j u x m p = elim (places.changed_or (with_stage m.new_stage) k es j x (ap (λ l. slice_get l j) (sym m.same_but) ∙ p.there)) [
-    | kept old n ↦ (record { there = old; pending = p.pending; owned = p.owned }, n)
-    | changed z jk gk fz ↦ let w : true ≡ false = sym p.pending ∙ ap (λ y. is_pending y.stage) (sym fz) ∙ m.moved_on in absurd cc
-  ]
+  | kept old n ↦ (record { there = old; pending = p.pending; owned = p.owned }, n)
+  | changed z jk gk fz ↦ let w : true ≡ false = sym p.pending ∙ ap (λ y. is_pending y.stage) (sym fz) ∙ m.moved_on in absurd cc
+]
 
 effect_waited : (out : OutcomeOf) (b : Board) (k : ℕ) (e : Entry) → slice_get b.entries k ≡ Some e → is_pending e.stage ≡ true → BoardWaited b → BoardWaited (effect out b k e e.work)
 effect_waited out b k e at pending h =
@@ -334,8 +333,8 @@ effect_waited out b k e at pending h =
     let fs = (effect out b k e e.work).entries in
     record {
       waits = λ j u x p.
-        let q = moved_old k b.entries fs j u x m p in
-        effect_spares out b k e e.work u (λ o. q.1 (h.alone j k u x e q.0 (record { there = at; pending = pending; owned = o }))) ∙ h.waits j u x q.0;
+          let q = moved_old k b.entries fs j u x m p in
+          effect_spares out b k e e.work u (λ o. q.1 (h.alone j k u x e q.0 (record { there = at; pending = pending; owned = o }))) ∙ h.waits j u x q.0;
       alone = λ i j u x y p q. h.alone i j u x y (moved_old k b.entries fs i u x m p).0 (moved_old k b.entries fs j u y m q).0;
     }
 
@@ -380,6 +379,6 @@ from_waited p s (t ∷ ts) u e h =
 
 pub seq_waited : (p : Program) (order : List ℕ) (s : State) → seq p order ≡ Some s → BoardWaited s.board
 seq_waited p order s e = from_waited p (start p) order s e (record {
-    waits = λ k u x h. absurd (none-some x h.there);
-    alone = λ i j u x y h g. absurd (none-some x h.there);
-  })
+  waits = λ k u x h. absurd (none-some x h.there);
+  alone = λ i j u x y h g. absurd (none-some x h.there);
+})

@@ -1,6 +1,6 @@
 -- Entries that only read.
-use Rattle.std.specs.Prelude.{◌≡◌, ℕ, Bool, true, false, not, ◌||◌, List, [], take, Some, None, Option, slice_get}
-use Rattle.std.specs.List.{list_any, list_all}
+use Rattle.std.specs.Prelude.{Bool, not, ◌||◌, List}
+use Rattle.std.specs.List.{list_all}
 use Rattle.sy_access.specs.declared.access.Need.{Need}
 use Rattle.sy_access.specs.Needs.{writes}
 use Rattle.sy_onecopy.specs.declared.Entry.{Entry}

@@ -1,5 +1,5 @@
 -- The plain story: entries done one after another in their order, on buffers with their first numbers.
-use Rattle.std.specs.Prelude.{ℕ, suc, ℤ, Bool, true, false, not, if◌then◌else◌, List, [], ◌∷◌, map, Option, slice_get}
+use Rattle.std.specs.Prelude.{ℕ, suc, ℤ, Bool, true, if◌then◌else◌, List, [], ◌∷◌, map, Option, slice_get}
 use Rattle.std.specs.List.{list_any}
 use Rattle.sy_access.specs.declared.access.Need.{Need}
 use Rattle.sy_access.specs.declared.cells.Cell.{Cell}
