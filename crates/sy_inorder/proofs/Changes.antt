@@ -13,6 +13,7 @@ use Rattle.sy_work.specs.declared.asks.Ask.TheVariants.{Print, MakeBuffer, MakeS
 use Rattle.sy_work.specs.declared.asks.NewBuffer.{NewBuffer}
 use Rattle.sy_work.specs.declared.asks.NewQueue.{NewQueue}
 use Rattle.sy_work.specs.declared.asks.Submission.{Submission}
+use Rattle.sy_work.specs.declared.commands.Command.{Command}
 use Rattle.sy_work.specs.declared.endings.KernelError.{KernelError}
 use Rattle.sy_onecopy.specs.declared.Buffer.{Buffer}
 use Rattle.sy_onecopy.specs.declared.Origin.{Origin}
@@ -60,12 +61,15 @@ pub record IsSound (bs : List Buffer) (needs : List Need) (work : Work) (after :
   pub fits : Fits bs work needs
   pub alone : StandsAlone work after in_order
 
+abbrev pub IsNoNode : Work → Type 0
+IsNoNode w = (n q : ℕ) (c : Command) → w ≡ Node n q c → ⊥
+
 -- the change of the entries and the buffers, with the access that it closes
 pub data Change (es fs : List Entry) (bs cs : List Buffer) (closes : List (ℕ × List ℤ)) : Type 0 where
   quiet : fs ≡ es → numbers_of cs ≡ numbers_of bs → closes ≡ [] → Change es fs bs cs closes
   wider : (x : Buffer) → fs ≡ es → cs ≡ bs ++ x ∷ [] → closes ≡ [] → Change es fs bs cs closes
   added : (e : Entry) → e.stage ≡ stage.Pending → IsSound bs e.needs e.work e.after e.in_order → fs ≡ es ++ e ∷ [] → numbers_of cs ≡ numbers_of bs → closes ≡ [] → Change es fs bs cs closes
-  shut : (k : ℕ) (e : Entry) (values : List ℤ) → slice_get es k ≡ Some e → e.stage ≡ stage.Granted → fs ≡ changed_at (with_stage stage.Done) k es → ((out : OutcomeOf) → cs ≡ after_work out values e.needs e.work bs) → closes ≡ (k, values) ∷ [] → Change es fs bs cs closes
+  shut : (k : ℕ) (e : Entry) (values : List ℤ) → slice_get es k ≡ Some e → e.stage ≡ stage.Granted → IsNoNode e.work → fs ≡ changed_at (with_stage stage.Done) k es → ((out : OutcomeOf) → cs ≡ after_work out values e.needs e.work bs) → closes ≡ (k, values) ∷ [] → Change es fs bs cs closes
 
 abbrev Became : Board → Board → Type 0
 Became b c = Change b.entries c.entries b.buffers c.buffers []
@@ -201,6 +205,9 @@ access_puts out values needs (Node n q c) t i bs h = let z : false ≡ true = h 
 access_puts out values needs (Access u j) t i bs h = refl
 access_puts out values needs (End u r) t i bs h = let z : false ≡ true = h in absurd cc
 
+access_no_node : (w : Work) (t i : ℕ) → is_access w t i ≡ true → IsNoNode w
+access_no_node w t i h n q c e = let z : true ≡ false = sym h ∙ ap (λ x. is_access x t i) e in cc
+
 -- the stages before and after, at the entry that is closed
 just_closed : (b : Board) (c : Board) (values : List ℤ) (k : ℕ) → over_at (slice_get b.entries k) ≡ false → over_at (slice_get c.entries k) ≡ true → closing_at b.entries c.entries values (Some k) ≡ (k, values) ∷ []
 just_closed b c values k h i =
@@ -212,7 +219,7 @@ closed-change true b t i values k e n ns c fs cs at s needs w =
     let es : c.entries ≡ changed_at (with_stage stage.Done) k b.entries = fs ∙ ap (changed_at (with_stage stage.Done) k) (put_back-entries b n values) in
     let was : over_at (slice_get b.entries k) ≡ false = ap over_at at ∙ ap is_done s in
     let is : over_at (slice_get c.entries k) ≡ true = ap (λ l. over_at (slice_get l k)) es ∙ ap over_at (changed_get (with_stage stage.Done) k b.entries e at) in
-    shut k e values at s es (λ out. cs ∙ put_back-buffers b n ns values ∙ ap (λ l. put l values b.buffers) (sym needs) ∙ access_puts out values e.needs e.work t i b.buffers w) (just_closed b c values k was is)
+    shut k e values at s (access_no_node e.work t i w) es (λ out. cs ∙ put_back-buffers b n ns values ∙ ap (λ l. put l values b.buffers) (sym needs) ∙ access_puts out values e.needs e.work t i b.buffers w) (just_closed b c values k was is)
 closed-change false b t i values k e n ns c fs cs at s needs w = nothing_closed b values k
 
 close_entry-change : (b : Board) (t i : ℕ) (values : List ℤ) (k : ℕ) (e : Entry) (s : Stage) (ns : List Need) → slice_get b.entries k ≡ Some e → e.stage ≡ s → e.needs ≡ ns → is_access e.work t i ≡ true → Closing b values (Some k) (close_entry b t values k s ns)

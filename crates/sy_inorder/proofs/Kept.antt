@@ -67,7 +67,7 @@ length_map : (bs : List Buffer) → length (numbers_of bs) ≡ length bs
 length_map [] = refl
 length_map (x ∷ bs) = ap suc (length_map bs)
 
-same_length : (bs cs : List Buffer) → numbers_of cs ≡ numbers_of bs → length cs ≡ length bs
+pub same_length : (bs cs : List Buffer) → numbers_of cs ≡ numbers_of bs → length cs ≡ length bs
 same_length bs cs h = sym (length_map cs) ∙ ap length h ∙ length_map bs
 
 same_extends : (bs cs : List Buffer) → numbers_of cs ≡ numbers_of bs → Extends bs cs
@@ -94,7 +94,7 @@ after_extends out given needs w bs = record {
 
 -- ---- the steps of the invariant
 
-done_not_pending : (s : Stage) → is_done s ≡ true → is_pending s ≡ false
+pub done_not_pending : (s : Stage) → is_done s ≡ true → is_pending s ≡ false
 done_not_pending Pending h = let z : false ≡ true = h in absurd cc
 done_not_pending Granted h = refl
 done_not_pending Done h = refl
@@ -113,7 +113,7 @@ quiet_holds out l es bs cs same h = record {
   sound = λ k e g. sound_more bs cs e.needs e.work e.after e.in_order (same_extends bs cs same) (h.sound k e g);
 }
 
-with_made : Ledger → List Buffer → Ledger
+pub with_made : Ledger → List Buffer → Ledger
 with_made l made = record l { made = made }
 
 wider_holds : (out : OutcomeOf) (l : Ledger) (es : List Entry) (bs : List Buffer) (x : Buffer) → Holds out l es bs → Holds out (with_made l (l.made ++ x ∷ [])) es (bs ++ x ∷ [])
@@ -220,26 +220,26 @@ done_holds out l m es bs cs k e s at live free over made same p h = record {
 
 -- ---- an ask
 
-with_parts : List Buffer → List (ℕ × List ℤ) → Ledger
+pub with_parts : List Buffer → List (ℕ × List ℤ) → Ledger
 with_parts made closings = record { made = made; closings = closings }
 
 moved : (out : OutcomeOf) (l m : Ledger) (es fs : List Entry) (bs cs : List Buffer) → l ≡ m → es ≡ fs → bs ≡ cs → Holds out l es bs → Holds out m fs cs
 moved out l m es fs bs cs p q r h = subst (λ x. Holds out x fs cs) p (subst (λ x. Holds out l x cs) q (subst (λ x. Holds out l es x) r h))
 
-drop_all : {A : Type 0} (xs : List A) (n : ℕ) → length xs ≡ n → drop n xs ≡ []
+pub drop_all : {A : Type 0} (xs : List A) (n : ℕ) → length xs ≡ n → drop n xs ≡ []
 drop_all [] zero h = refl
 drop_all [] (suc n) h = refl
 drop_all (x ∷ xs) zero h = absurd (omega (arith, h))
 drop_all (x ∷ xs) (suc n) h = drop_all xs n (omega (arith, h))
 
-drop_front : {A : Type 0} (xs : List A) (x : A) → drop (length xs) (xs ++ x ∷ []) ≡ x ∷ []
+pub drop_front : {A : Type 0} (xs : List A) (x : A) → drop (length xs) (xs ++ x ∷ []) ≡ x ∷ []
 drop_front [] x = refl
 drop_front (y ∷ xs) x = drop_front xs x
 
-same_place : (k : ℕ) → (k == k) ≡ true
+pub same_place : (k : ℕ) → (k == k) ≡ true
 same_place k = grind (arith, nat_tests)
 
-other_place : (k j : ℕ) → (j ≡ k → ⊥) → (k == j) ≡ false
+pub other_place : (k j : ℕ) → (j ≡ k → ⊥) → (k == j) ≡ false
 other_place k j n = by_test (k == j) refl
   where
     by_test : (v : Bool) → (k == j) ≡ v → (k == j) ≡ false
@@ -250,7 +250,7 @@ other_place k j n = by_test (k == j) refl
 abbrev pub after_change : Ledger → List Buffer → List Buffer → List (ℕ × List ℤ) → Ledger
 after_change l bs cs closes = record { made = l.made ++ drop (length bs) cs; closings = closes ++ l.closings }
 
-nothing_noted : (l : Ledger) (bs cs : List Buffer) (closes : List (ℕ × List ℤ)) → length cs ≡ length bs → closes ≡ [] → l ≡ after_change l bs cs closes
+pub nothing_noted : (l : Ledger) (bs cs : List Buffer) (closes : List (ℕ × List ℤ)) → length cs ≡ length bs → closes ≡ [] → l ≡ after_change l bs cs closes
 unfolding with_parts
 nothing_noted l bs cs closes h r =
     sym (ap (λ d. with_parts (l.made ++ d) (closes ++ l.closings)) (drop_all cs (length bs) h)
@@ -269,7 +269,7 @@ change_holds out l es fs bs cs closes (added e t s p q r) h =
     let now = quiet_holds out l es bs cs q h in
     moved out l (after_change l bs cs closes) (es ++ e ∷ []) fs cs cs (nothing_noted l bs cs closes (same_length bs cs q) r) (sym p) refl
     (added_holds out l es cs e (ap is_pending t) (sound_more bs cs e.needs e.work e.after e.in_order (same_extends bs cs q) s) now)
-change_holds out l es fs bs cs closes (shut k e values at t p q r) h =
+change_holds out l es fs bs cs closes (shut k e values at t w p q r) h =
     let m = with_parts l.made ((k, values) ∷ l.closings) in
     let new : m ≡ after_change l bs cs closes =
     ap (λ d. with_parts d ((k, values) ∷ l.closings)) (sym (ap (λ d. l.made ++ d) (drop_all cs (length bs) (ap length (q out) ∙ length_after out values e.needs e.work bs)) ∙ append-nil l.made))

@@ -6,6 +6,7 @@ pub mod Told
 pub mod Kept
 pub mod Running
 pub mod Sees
+pub mod Outcomes
 pub mod Readers
 pub mod Granted
 pub mod Waiting

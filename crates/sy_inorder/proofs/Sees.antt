@@ -132,7 +132,7 @@ later_apart es k e zero y at d h g t =
     let z : true ≡ false = sym t ∙ ap (λ x. is_done x.stage) same ∙ d in absurd cc
 later_apart es k e (suc j) y at d h g t = λ b i has. later_spares e y b i (h k (k + suc j) e y (omega arith) at g d t) has
 
-not_met : (x y : Entry) → before x y ≡ false → meet x y ≡ false
+pub not_met : (x y : Entry) → before x y ≡ false → meet x y ≡ false
 unfolding before
 not_met x y h = or_left (meet x y) (is_named x.work y.after || both_on x.in_order y.in_order) h
 
@@ -143,16 +143,20 @@ open_apart : (v : Bool) (x e : Entry) → is_done x.stage ≡ v → not v ≡ tr
 open_apart true x e d t h = let z : false ≡ true = t in absurd cc
 open_apart false x e d t h = λ b i has. earlier_spares x e b i (not_met x e (h d)) has
 
+-- the open ones before an entry do not matter to it
+pub seen_front : {A : Type 0} (view : List Buffer → A) (out : OutcomeOf) (l : Ledger) (es : List Entry) (k : ℕ) (e : Entry) → IsView view e.needs → Ordered es → NothingBefore es k e → view (in_order out l (take k es)) ≡ view (done_in_order out l (take k es))
+seen_front view out l es k e v order free =
+    let given = closed_with l.closings in
+    ap view (parted out given 0 (take k es) l.made (take_ordered es k order))
+    ∙ v.left (tale out given is_open) 0 (take k es) (done_in_order out l (take k es)) (λ j x g t. let p = places.in_take k es j x g in open_apart (is_done x.stage) x e refl t (free j x p.0 p.1))
+
 pub seen : {A : Type 0} (view : List Buffer → A) (out : OutcomeOf) (l : Ledger) (es : List Entry) (bs : List Buffer) (k : ℕ) (e : Entry) → IsView view e.needs → Holds out l es bs → slice_get es k ≡ Some e → is_done e.stage ≡ false → NothingBefore es k e → view bs ≡ view (in_order out l (take k es))
 seen view out l es bs k e v h at d free =
-    let given = closed_with l.closings in
-    let over_ones = tale out given is_over in
-    let front = story over_ones 0 (take k es) l.made in
+    let over_ones = tale out (closed_with l.closings) is_over in
     v.by_numbers bs (done_in_order out l es) h.numbers
     ∙ ap view (cut over_ones 0 k es l.made)
-    ∙ v.left over_ones (0 + k) (drop k es) front (λ j y g t. later_apart es k e j y at d (ordered es h.none_overtakes) (sym (places.in_drop k es j) ∙ g) t)
-    ∙ sym (v.left (tale out given is_open) 0 (take k es) front (λ j x g t. let p = places.in_take k es j x g in open_apart (is_done x.stage) x e refl t (free j x p.0 p.1)))
-    ∙ ap view (sym (parted out given 0 (take k es) l.made (take_ordered es k (ordered es h.none_overtakes))))
+    ∙ v.left over_ones (0 + k) (drop k es) (done_in_order out l (take k es)) (λ j y g t. later_apart es k e j y at d (ordered es h.none_overtakes) (sym (places.in_drop k es j) ∙ g) t)
+    ∙ sym (seen_front view out l es k e v (ordered es h.none_overtakes) free)
 
 -- ---- along a sequence
 
@@ -174,7 +178,7 @@ pub effect_sees : {A : Type 0} (view : List Buffer → A) (p : Program) (order :
 effect_sees view p order s t k e m v h =
     seen view p.outcome (ledger_of p (order ++ t ∷ [])) m.entries m.buffers k e v (effect_board p order s t k e m h) h.there (pending_open e (free_pending m.entries k e h.free)) (free_before m.entries k e h.free)
 
-inputs_view : (ns : List Need) → IsView (λ bs. inputs bs ns) ns
+pub inputs_view : (ns : List Need) → IsView (λ bs. inputs bs ns) ns
 inputs_view ns = record { by_numbers = λ bs cs h. same_needs bs cs ns h; left = λ s k es bs h. story-inputs s k es bs ns h }
 
 pub element_view : (ns : List Need) (b i : ℕ) → some_has ns b i ≡ true → IsView (λ bs. element bs b i) ns

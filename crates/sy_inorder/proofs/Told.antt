@@ -212,7 +212,7 @@ named_at (m ∷ ns) count (suc k) n h g = named_at ns count k n h.1 g
 pub wider_rows : (bs : List Buffer) (x : Buffer) (r : ℕ) → r < length bs → values_at (bs ++ x ∷ []) r ≡ values_at bs r
 wider_rows bs x r h = ap values_of (get_front bs x r h)
 
-wider_inputs : (bs : List Buffer) (x : Buffer) (needs : List Need) → AreNamed (length bs) needs → inputs (bs ++ x ∷ []) needs ≡ inputs bs needs
+pub wider_inputs : (bs : List Buffer) (x : Buffer) (needs : List Need) → AreNamed (length bs) needs → inputs (bs ++ x ∷ []) needs ≡ inputs bs needs
 wider_inputs bs x needs h = same_inputs (bs ++ x ∷ []) bs needs (λ k n g. ap (λ l. run_of l n.from n.to) (wider_rows bs x n.buffer (named_at needs (length bs) k n h g)))
 
 after_wider : (out : OutcomeOf) (given : List ℤ) (needs : List Need) (w : Work) (bs : List Buffer) (x : Buffer) → AreNamed (length bs) needs → after_work out given needs w (bs ++ x ∷ []) ≡ after_work out given needs w bs ++ x ∷ []
@@ -229,7 +229,7 @@ wider_by : (v : Bool) (s : Telling) (k : ℕ) (e : Entry) (bs : List Buffer) (x 
 wider_by true s k e bs x h = after_wider s.out (s.given k) e.needs e.work bs x h
 wider_by false s k e bs x h = refl
 
-length_by : (v : Bool) (s : Telling) (k : ℕ) (e : Entry) (bs : List Buffer) → length (if v then after_work s.out (s.given k) e.needs e.work bs else bs) ≡ length bs
+pub length_by : (v : Bool) (s : Telling) (k : ℕ) (e : Entry) (bs : List Buffer) → length (if v then after_work s.out (s.given k) e.needs e.work bs else bs) ≡ length bs
 length_by true s k e bs = length_after s.out (s.given k) e.needs e.work bs
 length_by false s k e bs = refl
 

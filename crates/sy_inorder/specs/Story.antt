@@ -11,6 +11,8 @@ use Rattle.sy_onecopy.specs.declared.Buffer.{Buffer}
 use Rattle.sy_onecopy.specs.declared.Entry.{Entry}
 use Rattle.sy_onecopy.specs.declared.Work.{Work}
 use Rattle.sy_onecopy.specs.declared.Work.TheVariants.{Node, Access, End}
+use Rattle.sy_onecopy.specs.declared.Stage.{Stage}
+use Rattle.sy_onecopy.specs.declared.Stage.TheVariants as stage
 use Rattle.sy_onecopy.specs.Each.{each_from}
 use Rattle.sy_onecopy.specs.Before.{is_done}
 use Rattle.sy_onecopy.specs.Outcome.{inputs, buffers_after, values_at, is_written}
@@ -20,6 +22,11 @@ use Rattle.sy_onecopy.specs.Step.{buffer_put}
 abbrev pub log_of : Outcome → List (Cell × ℤ)
 log_of (Wrote log) = log
 log_of (Failed fault) = []
+
+-- how a node that had this outcome stands
+abbrev pub stage_by : Outcome → Stage
+stage_by (Wrote log) = stage.Done
+stage_by (Failed fault) = stage.Failed fault
 
 -- the buffers after a host access put these numbers back
 unfoldable pub put : List Need → List ℤ → List Buffer → List Buffer

@@ -1,0 +1,153 @@
+-- A command that is done had the outcome that the story of all entries before it gives it.
+use Rattle.std.proofs.Common.{◌≡◌, ℕ, zero, suc, ◌+◌, ◌<◌, ◌≤◌, ℤ, ◌⊎◌, inl, inr, List, [], ◌∷◌, ◌++◌, length, take, drop, Bool, true, false, Option, Some, None, refl, sym, ap, ◌∙◌, subst, arith}
+use Rattle.std.specs.Prelude.{slice_get, if◌then◌else◌, ◌==◌}
+use Rattle.std.proofs.lemmas.Option.{same_Some, none-some, slice_get_within}
+use Rattle.sy_access.specs.declared.access.Need.{Need}
+use Rattle.sy_work.specs.Programs.{OutcomeOf, Program}
+use Rattle.sy_work.specs.declared.commands.Command.{Command}
+use Rattle.sy_work.specs.declared.commands.Outcome.{Outcome}
+use Rattle.sy_work.specs.declared.commands.Outcome.TheVariants.{Wrote, Failed as CommandFailed}
+use Rattle.sy_onecopy.specs.declared.Buffer.{Buffer}
+use Rattle.sy_onecopy.specs.declared.Entry.{Entry}
+use Rattle.sy_onecopy.specs.declared.Work.{Work}
+use Rattle.sy_onecopy.specs.declared.Work.TheVariants.{Node, Access, End}
+use Rattle.sy_onecopy.specs.declared.Stage.{Stage}
+use Rattle.sy_onecopy.specs.declared.Stage.TheVariants as stage
+use Rattle.sy_onecopy.specs.Each.{changed_at}
+use Rattle.sy_onecopy.specs.State.{Board, State, start, next_ask}
+use Rattle.sy_onecopy.specs.Before.{before, meet, is_done, is_pending, is_free}
+use Rattle.sy_onecopy.specs.Outcome.{inputs}
+use Rattle.sy_onecopy.specs.Settle.{with_stage, took, effect, settle_entry, settle_upto}
+use Rattle.sy_onecopy.specs.Step.{begun, give_all, turn, step}
+use Rattle.sy_onecopy.specs.Sequence.{is_legal, seq, seq_from}
+use Rattle.sy_inorder.specs.Story.{after_work, stage_by, told, story, Telling, is_any, is_over}
+use Rattle.sy_inorder.specs.Ledger.{Ledger, closed_with, asked, noted, empty, ledger_from, ledger_of, in_order, done_in_order}
+use Rattle.sy_inorder.proofs.Places as places
+use Rattle.sy_inorder.proofs.Places.WasAt.{kept, changed}
+use Rattle.sy_inorder.proofs.Changes.{AreNamed, IsNoNode, Change, apply-change}
+use Rattle.sy_inorder.proofs.Changes.Change.{quiet, wider, added, shut}
+use Rattle.sy_inorder.proofs.Cells.{after-left, earlier_spares}
+use Rattle.sy_inorder.proofs.Told.{tale, now_done, length_by, wider_inputs, wider_story}
+use Rattle.sy_inorder.proofs.Kept.{Holds, NothingBefore, ordered, done_not_pending, pending_open, with_made, with_parts, nothing_noted, same_length, drop_all, drop_front, after_change, change_holds, same_place, other_place}
+use Rattle.sy_inorder.proofs.Running.{BoardHolds, free_pending, free_before, upto_holds, asked_holds, one_legal, start_holds}
+use Rattle.sy_inorder.proofs.Sees.{seen, seen_front, inputs_view, take_ordered, not_met}
+
+-- each node that is done has the stage of its outcome on what the entries before it leave
+abbrev pub OutcomesHold : OutcomeOf → Ledger → List Entry → Type 0
+OutcomesHold out l es = (k n q : ℕ) (e : Entry) (c : Command) → slice_get es k ≡ Some e → e.work ≡ Node n q c → is_done e.stage ≡ true → e.stage ≡ stage_by (out c (inputs (in_order out l (take k es)) e.needs))
+
+-- ---- stories that come to the same
+
+take_changed : {A : Type 0} (f : A → A) (j k : ℕ) (xs : List A) → take k (changed_at f j xs) ≡ changed_at f j (take k xs)
+take_changed f j zero xs = refl
+take_changed f j (suc k) [] = refl
+take_changed f zero (suc k) (x ∷ xs) = refl
+take_changed f (suc j) (suc k) (x ∷ xs) = ap (λ l. x ∷ l) (take_changed f j k xs)
+
+-- the story of all does not ask for stages
+any_stage : (out : OutcomeOf) (g : ℕ → List ℤ) (b j : ℕ) (es : List Entry) (s : Stage) (bs : List Buffer) → story (tale out g is_any) b (changed_at (with_stage s) j es) bs ≡ story (tale out g is_any) b es bs
+any_stage out g b j [] s bs = refl
+any_stage out g b zero (x ∷ es) s bs = refl
+any_stage out g b (suc j) (x ∷ es) s bs = any_stage out g (suc b) j es s (after_work out (g b) x.needs x.work bs)
+
+-- nor for what later entries were given
+same_front : (out : OutcomeOf) (g h : ℕ → List ℤ) (b : ℕ) (es : List Entry) (bs : List Buffer) → ((j : ℕ) → j < b + length es → h j ≡ g j) → story (tale out h is_any) b es bs ≡ story (tale out g is_any) b es bs
+same_front out g h b [] bs e = refl
+same_front out g h b (x ∷ es) bs e =
+    ap (λ v. story (tale out h is_any) (suc b) es (after_work out v x.needs x.work bs)) (e b (omega arith))
+    ∙ same_front out g h (suc b) es (after_work out (g b) x.needs x.work bs) (λ j l. e j (omega (arith, l)))
+
+length_take : {A : Type 0} (k : ℕ) (xs : List A) → length (take k xs) ≤ k
+length_take zero xs = omega arith
+length_take (suc k) [] = omega arith
+length_take (suc k) (x ∷ xs) = let h = length_take k xs in omega (arith, h)
+
+length_story : (s : Telling) (k : ℕ) (es : List Entry) (bs : List Buffer) → length (story s k es bs) ≡ length bs
+length_story s k [] bs = refl
+length_story s k (e ∷ es) bs = length_story s (suc k) es (told s k e bs) ∙ length_by (s.tells e) s k e bs
+
+staged : (out : OutcomeOf) (l : Ledger) (es : List Entry) (j k : ℕ) (s : Stage) → in_order out l (take k (changed_at (with_stage s) j es)) ≡ in_order out l (take k es)
+staged out l es j k s =
+    ap (λ x. story (tale out (closed_with l.closings) is_any) 0 x l.made) (take_changed (with_stage s) j k es) ∙ any_stage out (closed_with l.closings) 0 j (take k es) s l.made
+
+-- ---- a change of one stage
+
+-- what the entry at j, which gets stage s, must have where it is a node
+abbrev pub FitsStage : OutcomeOf → Ledger → List Entry → ℕ → Entry → Stage → Type 0
+FitsStage out l es j e s = (n q : ℕ) (c : Command) → e.work ≡ Node n q c → is_done s ≡ true → s ≡ stage_by (out c (inputs (in_order out l (take j es)) e.needs))
+
+changed_outcomes : (out : OutcomeOf) (l : Ledger) (es : List Entry) (j : ℕ) (e : Entry) (s : Stage) → slice_get es j ≡ Some e → FitsStage out l es j e s → OutcomesHold out l es → OutcomesHold out l (changed_at (with_stage s) j es)
+changed_outcomes out l es j e s at fits h k n q x c g w d = elim (places.changed_or (with_stage s) j es k x g) [
+    | kept old m ↦ h k n q x c old w d ∙ ap (λ b. stage_by (out c (inputs b x.needs))) (sym (staged out l es j k s))
+    | changed z kj gj fz ↦
+        let z_is : z ≡ e = same_Some z e (sym gj ∙ at) in
+        let work : e.work ≡ Node n q c = ap (λ y. y.work) (sym z_is) ∙ ap (λ y. y.work) fz ∙ w in
+        let done : is_done s ≡ true = ap (λ y. is_done y.stage) fz ∙ d in
+        let needs : e.needs ≡ x.needs = ap (λ y. y.needs) (sym z_is) ∙ ap (λ y. y.needs) fz in
+        ap (λ y. y.stage) (sym fz) ∙ fits n q c work done
+        ∙ ap (λ ns. stage_by (out c (inputs (in_order out l (take j es)) ns))) needs
+        ∙ ap (λ m. stage_by (out c (inputs (in_order out l (take m es)) x.needs))) (sym kj)
+        ∙ ap (λ b. stage_by (out c (inputs b x.needs))) (sym (staged out l es j k s))
+  ]
+
+-- ---- an access is closed
+
+-- the inputs of an entry that is done stay when an open one before it is closed
+closed_before : (out : OutcomeOf) (l m : Ledger) (es : List Entry) (bs cs : List Buffer) (j k : ℕ) (e x : Entry) → slice_get es j ≡ Some e → is_done e.stage ≡ false → j < k → slice_get es k ≡ Some x → is_done x.stage ≡ true → slice_get (changed_at (with_stage stage.Done) j es) k ≡ Some x → m.made ≡ l.made → ((i : ℕ) → (i ≡ j → ⊥) → closed_with m.closings i ≡ closed_with l.closings i) → Holds out l es bs → Holds out m (changed_at (with_stage stage.Done) j es) cs → inputs (in_order out m (take k (changed_at (with_stage stage.Done) j es))) x.needs ≡ inputs (in_order out l (take k es)) x.needs
+closed_before out l m es bs cs j k e x at d lt old dx new made same h i =
+    let fs = changed_at (with_stage stage.Done) j es in
+    let view = λ (b : List Buffer). inputs b x.needs in
+    let not_waiting = done_not_pending x.stage dx in
+    let given = closed_with m.closings in
+    let apart = not_met e x (h.none_overtakes j k e x lt at old d not_waiting) in
+    seen_front view out m fs k x (inputs_view x.needs) (ordered fs i.none_overtakes) (λ a y l1 g o. i.none_overtakes a k y x l1 g new o not_waiting)
+    ∙ ap (λ b. view (story (tale out given is_over) 0 (take k fs) b)) made
+    ∙ ap (λ z. view (story (tale out given is_over) 0 z l.made)) (take_changed (with_stage stage.Done) j k es)
+    ∙ ap view (now_done out (closed_with l.closings) given 0 j (take k es) e stage.Done l.made (places.take_has k es j e lt at) d refl (λ a n. same a (λ z. n (omega (arith, z))))
+        (λ a y l1 g o. take_ordered es k (ordered es h.none_overtakes) j a e y l1 (places.take_has k es j e lt at) g d o))
+    ∙ after-left out (given (0 + j)) e x.needs (done_in_order out l (take k es)) (λ b a has. earlier_spares e x b a apart has)
+    ∙ sym (seen_front view out l es k x (inputs_view x.needs) (ordered es h.none_overtakes) (λ a y l1 g o. h.none_overtakes a k y x l1 g old o not_waiting))
+
+by_order : (j k : ℕ) → (k ≡ j → ⊥) → (j < k) ⊎ (k < j)
+by_order zero zero n = absurd (n refl)
+by_order zero (suc k) n = inl (omega arith)
+by_order (suc j) zero n = inr (omega arith)
+by_order (suc j) (suc k) n = elim (by_order j k (λ e. n (ap suc e))) [ inl a ↦ inl (omega (arith, a)) | inr b ↦ inr (omega (arith, b)) ]
+
+closed_outcomes : (out : OutcomeOf) (l m : Ledger) (es : List Entry) (bs cs : List Buffer) (j : ℕ) (e : Entry) → slice_get es j ≡ Some e → is_done e.stage ≡ false → IsNoNode e.work → m.made ≡ l.made → ((i : ℕ) → (i ≡ j → ⊥) → closed_with m.closings i ≡ closed_with l.closings i) → Holds out l es bs → Holds out m (changed_at (with_stage stage.Done) j es) cs → OutcomesHold out l es → OutcomesHold out m (changed_at (with_stage stage.Done) j es)
+closed_outcomes out l m es bs cs j e at d none made same h i o k n q x c g w dx = elim (places.changed_or (with_stage stage.Done) j es k x g) [
+    | kept old away ↦ elim (by_order j k away) [
+        | inl lt ↦ o k n q x c old w dx ∙ ap (λ b. stage_by (out c b)) (sym (closed_before out l m es bs cs j k e x at d lt old dx g made same h i))
+        | inr gt ↦
+            let short = length_take k es in
+            o k n q x c old w dx
+            ∙ ap (λ b. stage_by (out c (inputs b x.needs)))
+              (sym (staged out m es j k stage.Done
+                  ∙ ap (λ b. story (tale out (closed_with m.closings) is_any) 0 (take k es) b) made
+                  ∙ same_front out (closed_with l.closings) (closed_with m.closings) 0 (take k es) l.made (λ a l1. same a (λ z. omega (arith, l1, z, short, gt)))))
+      ]
+    | changed z kj gj fz ↦ absurd (none n q c (ap (λ y. y.work) (same_Some e z (sym at ∙ gj)) ∙ ap (λ y. y.work) fz ∙ w))
+  ]
+
+-- ---- an ask
+
+moved_outcomes : (out : OutcomeOf) (l m : Ledger) (es fs : List Entry) → l ≡ m → es ≡ fs → OutcomesHold out l es → OutcomesHold out m fs
+moved_outcomes out l m es fs p q h = subst (λ x. OutcomesHold out x fs) p (subst (OutcomesHold out l) q h)
+
+wider_outcomes : (out : OutcomeOf) (l : Ledger) (es : List Entry) (bs : List Buffer) (x : Buffer) → Holds out l es bs → OutcomesHold out l es → OutcomesHold out (with_made l (l.made ++ x ∷ [])) es
+wider_outcomes out l es bs x h o k n q e c at w d =
+    let s = tale out (closed_with l.closings) is_any in
+    let named = λ (j : ℕ) (y : Entry) (g : slice_get es j ≡ Some y). subst (λ m. AreNamed m y.needs) (sym h.count) (h.sound j y g).named in
+    let long = length_story s 0 (take k es) l.made in
+    o k n q e c at w d
+    ∙ ap (λ b. stage_by (out c b))
+      (sym (ap (λ b. inputs b e.needs) (wider_story s 0 (take k es) l.made x (λ j y g. named j y (places.in_take k es j y g).1))
+          ∙ wider_inputs (in_order out l (take k es)) x e.needs (subst (λ m. AreNamed m e.needs) (sym long) (named k e at))))
+
+added_outcomes : (out : OutcomeOf) (l : Ledger) (es : List Entry) (e : Entry) → is_done e.stage ≡ false → OutcomesHold out l es → OutcomesHold out l (es ++ e ∷ [])
+added_outcomes out l es e live o k n q x c g w d = elim (places.last_or es e k x g) [
+    | inl old ↦
+        let lt = slice_get_within es k x old in
+        o k n q x c old w d ∙ ap (λ z. stage_by (out c (inputs (in_order out l z) x.needs))) (sym (places.take_front es e k (omega (arith, lt))))
+    | inr last ↦ let z : true ≡ false = sym d ∙ ap (λ y. is_done y.stage) (sym last.1) ∙ live in absurd cc
+  ]
