@@ -113,11 +113,10 @@ quiet_holds out l es bs cs same h = record {
   sound = λ k e g. sound_more bs cs e.needs e.work e.after e.in_order (same_extends bs cs same) (h.sound k e g);
 }
 
-pub with_made : Ledger → List Buffer → Ledger
+abbrev pub with_made : Ledger → List Buffer → Ledger
 with_made l made = record l { made = made }
 
 wider_holds : (out : OutcomeOf) (l : Ledger) (es : List Entry) (bs : List Buffer) (x : Buffer) → Holds out l es bs → Holds out (with_made l (l.made ++ x ∷ [])) es (bs ++ x ∷ [])
-unfolding with_made
 wider_holds out l es bs x h = record {
   numbers =
       map-append (λ (y : Buffer). y.values) bs (x ∷ [])
@@ -220,7 +219,7 @@ done_holds out l m es bs cs k e s at live free over made same p h = record {
 
 -- ---- an ask
 
-pub with_parts : List Buffer → List (ℕ × List ℤ) → Ledger
+abbrev pub with_parts : List Buffer → List (ℕ × List ℤ) → Ledger
 with_parts made closings = record { made = made; closings = closings }
 
 moved : (out : OutcomeOf) (l m : Ledger) (es fs : List Entry) (bs cs : List Buffer) → l ≡ m → es ≡ fs → bs ≡ cs → Holds out l es bs → Holds out m fs cs
@@ -251,20 +250,20 @@ abbrev pub after_change : Ledger → List Buffer → List Buffer → List (ℕ �
 after_change l bs cs closes = record { made = l.made ++ drop (length bs) cs; closings = closes ++ l.closings }
 
 pub nothing_noted : (l : Ledger) (bs cs : List Buffer) (closes : List (ℕ × List ℤ)) → length cs ≡ length bs → closes ≡ [] → l ≡ after_change l bs cs closes
-unfolding with_parts
 nothing_noted l bs cs closes h r =
     sym (ap (λ d. with_parts (l.made ++ d) (closes ++ l.closings)) (drop_all cs (length bs) h)
     ∙ ap (λ d. with_parts d (closes ++ l.closings)) (append-nil l.made)
     ∙ ap (λ c. with_parts l.made (c ++ l.closings)) r)
 
+pub wider_noted : (l : Ledger) (bs cs : List Buffer) (closes : List (ℕ × List ℤ)) (x : Buffer) → cs ≡ bs ++ x ∷ [] → closes ≡ [] → with_made l (l.made ++ x ∷ []) ≡ after_change l bs cs closes
+wider_noted l bs cs closes x q r =
+    ap (λ d. with_parts (l.made ++ d) l.closings) (sym (ap (drop (length bs)) q ∙ drop_front bs x)) ∙ ap (λ c. with_parts (l.made ++ drop (length bs) cs) (c ++ l.closings)) (sym r)
+
 pub change_holds : (out : OutcomeOf) (l : Ledger) (es fs : List Entry) (bs cs : List Buffer) (closes : List (ℕ × List ℤ)) → Change es fs bs cs closes → Holds out l es bs → Holds out (after_change l bs cs closes) fs cs
-unfolding with_parts with_made
 change_holds out l es fs bs cs closes (quiet p q r) h =
     moved out l (after_change l bs cs closes) es fs cs cs (nothing_noted l bs cs closes (same_length bs cs q) r) (sym p) refl (quiet_holds out l es bs cs q h)
 change_holds out l es fs bs cs closes (wider x p q r) h =
-    let m : with_made l (l.made ++ x ∷ []) ≡ after_change l bs cs closes =
-    ap (λ d. with_parts (l.made ++ d) l.closings) (sym (ap (drop (length bs)) q ∙ drop_front bs x)) ∙ ap (λ c. with_parts (l.made ++ drop (length bs) cs) (c ++ l.closings)) (sym r) in
-    moved out (with_made l (l.made ++ x ∷ [])) (after_change l bs cs closes) es fs (bs ++ x ∷ []) cs m (sym p) (sym q) (wider_holds out l es bs x h)
+    moved out (with_made l (l.made ++ x ∷ [])) (after_change l bs cs closes) es fs (bs ++ x ∷ []) cs (wider_noted l bs cs closes x q r) (sym p) (sym q) (wider_holds out l es bs x h)
 change_holds out l es fs bs cs closes (added e t s p q r) h =
     let now = quiet_holds out l es bs cs q h in
     moved out l (after_change l bs cs closes) (es ++ e ∷ []) fs cs cs (nothing_noted l bs cs closes (same_length bs cs q) r) (sym p) refl

@@ -1,9 +1,11 @@
 -- A command that is done had the outcome that the story of all entries before it gives it.
 use Rattle.std.proofs.Common.{◌≡◌, ℕ, zero, suc, ◌+◌, ◌<◌, ◌≤◌, ℤ, ◌⊎◌, inl, inr, List, [], ◌∷◌, ◌++◌, length, take, drop, Bool, true, false, Option, Some, None, refl, sym, ap, ◌∙◌, subst, arith}
 use Rattle.std.specs.Prelude.{slice_get, if◌then◌else◌, ◌==◌}
+use Rattle.std.proofs.lemmas.List.{append-nil}
 use Rattle.std.proofs.lemmas.Option.{same_Some, none-some, slice_get_within}
 use Rattle.sy_access.specs.declared.access.Need.{Need}
 use Rattle.sy_work.specs.Programs.{OutcomeOf, Program}
+use Rattle.sy_work.specs.declared.asks.Ask.{Ask}
 use Rattle.sy_work.specs.declared.commands.Command.{Command}
 use Rattle.sy_work.specs.declared.commands.Outcome.{Outcome}
 use Rattle.sy_work.specs.declared.commands.Outcome.TheVariants.{Wrote, Failed as CommandFailed}
@@ -27,8 +29,8 @@ use Rattle.sy_inorder.proofs.Places.WasAt.{kept, changed}
 use Rattle.sy_inorder.proofs.Changes.{AreNamed, IsNoNode, Change, apply-change}
 use Rattle.sy_inorder.proofs.Changes.Change.{quiet, wider, added, shut}
 use Rattle.sy_inorder.proofs.Cells.{after-left, earlier_spares}
-use Rattle.sy_inorder.proofs.Told.{tale, now_done, length_by, wider_inputs, wider_story}
-use Rattle.sy_inorder.proofs.Kept.{Holds, NothingBefore, ordered, done_not_pending, pending_open, with_made, with_parts, nothing_noted, same_length, drop_all, drop_front, after_change, change_holds, same_place, other_place}
+use Rattle.sy_inorder.proofs.Told.{tale, now_done, length_by, length_after, wider_inputs, wider_story}
+use Rattle.sy_inorder.proofs.Kept.{Holds, NothingBefore, ordered, done_not_pending, pending_open, with_made, nothing_noted, same_length, drop_all, wider_noted, after_change, change_holds, other_place}
 use Rattle.sy_inorder.proofs.Running.{BoardHolds, free_pending, free_before, upto_holds, asked_holds, one_legal, start_holds}
 use Rattle.sy_inorder.proofs.Sees.{seen, seen_front, inputs_view, take_ordered, not_met}
 
@@ -151,3 +153,87 @@ added_outcomes out l es e live o k n q x c g w d = elim (places.last_or es e k x
         o k n q x c old w d ∙ ap (λ z. stage_by (out c (inputs (in_order out l z) x.needs))) (sym (places.take_front es e k (omega (arith, lt))))
     | inr last ↦ let z : true ≡ false = sym d ∙ ap (λ y. is_done y.stage) (sym last.1) ∙ live in absurd cc
   ]
+
+change_outcomes : (out : OutcomeOf) (l : Ledger) (es fs : List Entry) (bs cs : List Buffer) (closes : List (ℕ × List ℤ)) → Change es fs bs cs closes → Holds out l es bs → OutcomesHold out l es → OutcomesHold out (after_change l bs cs closes) fs
+change_outcomes out l es fs bs cs closes (quiet p q r) h o =
+    moved_outcomes out l (after_change l bs cs closes) es fs (nothing_noted l bs cs closes (same_length bs cs q) r) (sym p) o
+change_outcomes out l es fs bs cs closes (wider x p q r) h o =
+    moved_outcomes out (with_made l (l.made ++ x ∷ [])) (after_change l bs cs closes) es fs (wider_noted l bs cs closes x q r) (sym p) (wider_outcomes out l es bs x h o)
+change_outcomes out l es fs bs cs closes (added e t s p q r) h o =
+    moved_outcomes out l (after_change l bs cs closes) (es ++ e ∷ []) fs (nothing_noted l bs cs closes (same_length bs cs q) r) (sym p) (added_outcomes out l es e (ap is_done t) o)
+change_outcomes out l es fs bs cs closes (shut k e values at t w p q r) h o =
+    let m = after_change l bs cs closes in
+    let s = shut k e values at t w p q r in
+    let made : m.made ≡ l.made = ap (λ d. l.made ++ d) (drop_all cs (length bs) (ap length (q out) ∙ length_after out values e.needs e.work bs)) ∙ append-nil l.made in
+    let same = λ (j : ℕ) (n : j ≡ k → ⊥). ap (λ x. closed_with (x ++ l.closings) j) r ∙ ap (λ v. if v then values else closed_with l.closings j) (other_place k j n) in
+    moved_outcomes out m m (changed_at (with_stage stage.Done) k es) fs refl (sym p)
+    (closed_outcomes out l m es bs cs k e at (ap is_done t) w made same h (subst (λ x. Holds out m x cs) p (change_holds out l es fs bs cs closes s h)) o)
+
+-- ---- a pass
+
+one_command : (n q : ℕ) (c : Command) (m p : ℕ) (d : Command) → Node n q c ≡ Node m p d → c ≡ d
+one_command n q c m p d h = cc
+
+-- a board on which both hold
+record Tells (out : OutcomeOf) (l : Ledger) (b : Board) : Type 0 where
+  holds : BoardHolds out l b
+  outcomes : OutcomesHold out l b.entries
+
+-- the stage that a node gets is that of its outcome in the story
+fits_node : (out : OutcomeOf) (l : Ledger) (b : Board) (k n q : ℕ) (e : Entry) (c : Command) (r : Outcome) → slice_get b.entries k ≡ Some e → is_free b.entries k e ≡ true → e.work ≡ Node n q c → out c (inputs b.buffers e.needs) ≡ r → Tells out l b → FitsStage out l b.entries k e (stage_by r)
+fits_node out l b k n q e c r at free w is h m p d x over =
+    let view = λ (bs : List Buffer). inputs bs e.needs in
+    let sees = seen view out l b.entries b.buffers k e (inputs_view e.needs) h.holds at (pending_open e (free_pending b.entries k e free)) (free_before b.entries k e free) in
+    let same : c ≡ d = one_command n q c m p d (sym w ∙ x) in
+    ap stage_by (sym is) ∙ ap (λ i. stage_by (out c i)) sees ∙ ap (λ a. stage_by (out a (view (in_order out l (take k b.entries))))) same
+
+took_outcomes : (out : OutcomeOf) (l : Ledger) (b : Board) (k n q : ℕ) (e : Entry) (c : Command) (r : Outcome) → slice_get b.entries k ≡ Some e → is_free b.entries k e ≡ true → e.work ≡ Node n q c → out c (inputs b.buffers e.needs) ≡ r → Tells out l b → OutcomesHold out l (took b k e.needs r).entries
+unfolding took
+took_outcomes out l b k n q e c (Wrote log) at free w r h = changed_outcomes out l b.entries k e stage.Done at (fits_node out l b k n q e c (Wrote log) at free w r h) h.outcomes
+took_outcomes out l b k n q e c (CommandFailed f) at free w r h = changed_outcomes out l b.entries k e (stage.Failed f) at (fits_node out l b k n q e c (CommandFailed f) at free w r h) h.outcomes
+
+effect_outcomes : (out : OutcomeOf) (l : Ledger) (b : Board) (k : ℕ) (e : Entry) (w : Work) → slice_get b.entries k ≡ Some e → is_free b.entries k e ≡ true → e.work ≡ w → Tells out l b → OutcomesHold out l (effect out b k e w).entries
+unfolding effect
+effect_outcomes out l b k e (Node n q c) at free w h = took_outcomes out l b k n q e c (out c (inputs b.buffers e.needs)) at free w refl h
+effect_outcomes out l b k e (Access t i) at free w h =
+    changed_outcomes out l b.entries k e stage.Granted at (λ n q c x d. let z : false ≡ true = d in absurd cc) h.outcomes
+effect_outcomes out l b k e (End t r) at free w h =
+    changed_outcomes out l b.entries k e stage.Done at (λ n q c x d. let z : Node n q c ≡ End t r = sym x ∙ w in absurd cc) h.outcomes
+
+chosen_outcomes : (v : Bool) (out : OutcomeOf) (l : Ledger) (b : Board) (k : ℕ) (e : Entry) → is_free b.entries k e ≡ v → slice_get b.entries k ≡ Some e → Tells out l b → OutcomesHold out l (if v then effect out b k e e.work else b).entries
+chosen_outcomes true out l b k e free at h = effect_outcomes out l b k e e.work at free refl h
+chosen_outcomes false out l b k e free at h = h.outcomes
+
+entry_outcomes : (out : OutcomeOf) (l : Ledger) (b : Board) (k : ℕ) (o : Option Entry) → slice_get b.entries k ≡ o → Tells out l b → OutcomesHold out l (settle_entry out b k o).entries
+unfolding settle_entry
+entry_outcomes out l b k None at h = h.outcomes
+entry_outcomes out l b k (Some e) at h = chosen_outcomes (is_free b.entries k e) out l b k e refl at h
+
+upto_outcomes : (out : OutcomeOf) (l : Ledger) (b : Board) (n : ℕ) → Tells out l b → OutcomesHold out l (settle_upto out b n).entries
+upto_outcomes out l b zero h = h.outcomes
+upto_outcomes out l b (suc n) h =
+    entry_outcomes out l (settle_upto out b n) n (slice_get (settle_upto out b n).entries n) refl (record { holds = upto_holds out l b n h.holds; outcomes = upto_outcomes out l b n h })
+
+-- ---- a sequence
+
+asked_outcomes : (out : OutcomeOf) (l : Ledger) (b : Board) (t : ℕ) (q : Ask) → Tells out l b → OutcomesHold out (noted l b t q) (asked b t q).entries
+unfolding noted
+asked_outcomes out l b t q h = change_outcomes out l b.entries (asked b t q).entries b.buffers (asked b t q).buffers _ (apply-change (begun b t) t q) h.holds h.outcomes
+
+step_tells : (p : Program) (l : Ledger) (s : State) (t : ℕ) → Tells p.outcome l s.board → Tells p.outcome (noted l s.board t (next_ask p s t)) (step p s t).board
+unfolding step turn give_all
+step_tells p l s t h =
+    let q = next_ask p s t in
+    let m = noted l s.board t q in
+    let c = asked s.board t q in
+    let start_it = asked_holds p.outcome l s.board t q h.holds in
+    record { holds = upto_holds p.outcome m c (length c.entries) start_it; outcomes = upto_outcomes p.outcome m c (length c.entries) (record { holds = start_it; outcomes = asked_outcomes p.outcome l s.board t q h }) }
+
+from_tells : (p : Program) (l : Ledger) (s : State) (order : List ℕ) (u : State) → seq_from p s order ≡ Some u → Tells p.outcome l s.board → Tells p.outcome (ledger_from p s l order) u.board
+from_tells p l s [] u e h = subst (λ (x : State). Tells p.outcome l x.board) (same_Some s u e) h
+from_tells p l s (t ∷ ts) u e h =
+    from_tells p (noted l s.board t (next_ask p s t)) (step p s t) ts u (one_legal (is_legal p s t) (seq_from p (step p s t) ts) u e).1 (step_tells p l s t h)
+
+pub seq_outcomes : (p : Program) (order : List ℕ) (s : State) → seq p order ≡ Some s → OutcomesHold p.outcome (ledger_of p order) s.board.entries
+seq_outcomes p order s e =
+    (from_tells p empty (start p) order s e (record { holds = start_holds p.outcome; outcomes = λ k n q x c g w d. absurd (none-some x g) })).outcomes

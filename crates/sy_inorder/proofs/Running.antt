@@ -92,7 +92,7 @@ from_holds p l s (t ∷ ts) u e h =
     let q = one_legal (is_legal p s t) (seq_from p (step p s t) ts) u e in
     from_holds p (noted l s.board t (next_ask p s t)) (step p s t) ts u q.1 (step_holds p l s t h)
 
-start_holds : (out : OutcomeOf) → Holds out empty [] []
+pub start_holds : (out : OutcomeOf) → Holds out empty [] []
 start_holds out = record { numbers = refl; count = refl; none_overtakes = λ i j x y lt a b c d. absurd (none-some x a); sound = λ k e g. absurd (none-some e g) }
 
 pub seq_holds : (p : Program) (order : List ℕ) (s : State) → seq p order ≡ Some s → BoardHolds p.outcome (ledger_of p order) s.board

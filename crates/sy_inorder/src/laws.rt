@@ -11,7 +11,7 @@ ghost use Rattle.sy_onecopy.specs.declared.Entry.{Entry};
 ghost use Rattle.sy_onecopy.specs.declared.Work.TheVariants.{Node, Access, End};
 ghost use Rattle.sy_onecopy.specs.declared.Stage.TheVariants.{Granted};
 ghost use Rattle.sy_onecopy.specs.declared.Waits.TheVariants.{Due};
-ghost use Rattle.sy_onecopy.specs.Before.{before, is_held, is_pending};
+ghost use Rattle.sy_onecopy.specs.Before.{before, is_done, is_held, is_pending};
 ghost use Rattle.sy_onecopy.specs.Outcome.{inputs, values_at};
 ghost use Rattle.sy_onecopy.specs.Sequence.{is_legal, seq};
 ghost use Rattle.sy_onecopy.specs.Settle.{first_of};
@@ -19,7 +19,7 @@ ghost use Rattle.sy_onecopy.specs.State.{Board, State, Thread, next_ask};
 ghost use Rattle.sy_onecopy.specs.Step.{is_root_need, step};
 ghost use Rattle.sy_inorder.specs.Effects.{TakesEffect, turned};
 ghost use Rattle.sy_inorder.specs.Ledger.{Ledger, closed_with, done_in_order, in_order, ledger_of};
-ghost use Rattle.sy_inorder.specs.Story.{Telling, element, numbers_of, some_has, some_writes, story};
+ghost use Rattle.sy_inorder.specs.Story.{Telling, element, numbers_of, some_has, some_writes, stage_by, story};
 ghost use Rattle.sy_access.specs.declared.cells.Cell.{Cell};
 ghost use Rattle.sy_access.specs.declared.cells.Cell.TheVariants as cell;
 ghost use Rattle.sy_access.specs.Logs.{logged};
@@ -63,6 +63,7 @@ pub fn the_last_writer_decides()
 /// element left, or its first number.
 pub fn commands_run_as_if_in_order()
     ensures buffers { (p : Program) (order : List ℕ) (s : State) → seq p order ≡ Some s → numbers_of s.board.buffers ≡ numbers_of (done_in_order p.outcome (ledger_of p order) s.board.entries) }
+    ensures outcomes { (p : Program) (order : List ℕ) (s : State) (k n q : ℕ) (e : Entry) (c : Command) → seq p order ≡ Some s → slice_get s.board.entries k ≡ Some e → e.work ≡ Node n q c → is_done e.stage ≡ true → e.stage ≡ stage_by (p.outcome c (inputs (in_order p.outcome (ledger_of p order) (take k s.board.entries)) e.needs)) }
     ensures inputs { (p : Program) (order : List ℕ) (s : State) (t k : ℕ) (e : Entry) (m : Board) → TakesEffect p order s t k e m → inputs m.buffers e.needs ≡ inputs (in_order p.outcome (ledger_of p (order ++ t ∷ [])) (take k m.entries)) e.needs }
     ensures first { (p : Program) (order : List ℕ) (s : State) (t k b i : ℕ) (e : Entry) (m : Board) → TakesEffect p order s t k e m → some_has e.needs b i ≡ true → some_writes (take k m.entries) b i ≡ false → element m.buffers b i ≡ element (ledger_of p (order ++ t ∷ [])).made b i }
     ensures last { (p : Program) (order : List ℕ) (s : State) (t k j b i : ℕ) (e : Entry) (m : Board) → TakesEffect p order s t k e m → some_has e.needs b i ≡ true → some_writes (drop (suc j) (take k m.entries)) b i ≡ false → element m.buffers b i ≡ element (in_order p.outcome (ledger_of p (order ++ t ∷ [])) (take (suc j) (take k m.entries))) b i }
