@@ -1,9 +1,8 @@
 -- A command that is done had the outcome that the story of all entries before it gives it.
-use Rattle.std.proofs.Common.{◌≡◌, ℕ, zero, suc, ◌+◌, ◌<◌, ◌≤◌, ℤ, ◌⊎◌, inl, inr, List, [], ◌∷◌, ◌++◌, length, take, drop, Bool, true, false, Option, Some, None, refl, sym, ap, ◌∙◌, subst, arith}
-use Rattle.std.specs.Prelude.{slice_get, if◌then◌else◌, ◌==◌}
+use Rattle.std.proofs.Common.{◌≡◌, ℕ, zero, suc, ◌+◌, ◌<◌, ◌≤◌, ℤ, ◌⊎◌, inl, inr, List, [], ◌∷◌, ◌++◌, length, take, Bool, true, false, Option, Some, None, refl, sym, ap, ◌∙◌, subst, arith}
+use Rattle.std.specs.Prelude.{slice_get, if◌then◌else◌}
 use Rattle.std.proofs.lemmas.List.{append-nil}
 use Rattle.std.proofs.lemmas.Option.{same_Some, none-some, slice_get_within}
-use Rattle.sy_access.specs.declared.access.Need.{Need}
 use Rattle.sy_work.specs.Programs.{OutcomeOf, Program}
 use Rattle.sy_work.specs.declared.asks.Ask.{Ask}
 use Rattle.sy_work.specs.declared.commands.Command.{Command}
@@ -17,7 +16,7 @@ use Rattle.sy_onecopy.specs.declared.Stage.{Stage}
 use Rattle.sy_onecopy.specs.declared.Stage.TheVariants as stage
 use Rattle.sy_onecopy.specs.Each.{changed_at}
 use Rattle.sy_onecopy.specs.State.{Board, State, start, next_ask}
-use Rattle.sy_onecopy.specs.Before.{before, meet, is_done, is_pending, is_free}
+use Rattle.sy_onecopy.specs.Before.{is_done, is_free}
 use Rattle.sy_onecopy.specs.Outcome.{inputs}
 use Rattle.sy_onecopy.specs.Settle.{with_stage, took, effect, settle_entry, settle_upto}
 use Rattle.sy_onecopy.specs.Step.{begun, give_all, turn, step}
@@ -30,7 +29,7 @@ use Rattle.sy_inorder.proofs.Changes.{AreNamed, IsNoNode, Change, apply-change}
 use Rattle.sy_inorder.proofs.Changes.Change.{quiet, wider, added, shut}
 use Rattle.sy_inorder.proofs.Cells.{after-left, earlier_spares}
 use Rattle.sy_inorder.proofs.Told.{tale, now_done, length_by, length_after, wider_inputs, wider_story}
-use Rattle.sy_inorder.proofs.Kept.{Holds, NothingBefore, ordered, done_not_pending, pending_open, with_made, nothing_noted, same_length, drop_all, wider_noted, after_change, change_holds, other_place}
+use Rattle.sy_inorder.proofs.Kept.{Holds, ordered, done_not_pending, pending_open, with_made, nothing_noted, same_length, drop_all, wider_noted, after_change, change_holds, other_place}
 use Rattle.sy_inorder.proofs.Running.{BoardHolds, free_pending, free_before, upto_holds, asked_holds, one_legal, start_holds}
 use Rattle.sy_inorder.proofs.Sees.{seen, seen_front, inputs_view, take_ordered, not_met}
 
@@ -80,17 +79,17 @@ FitsStage out l es j e s = (n q : ℕ) (c : Command) → e.work ≡ Node n q c �
 
 changed_outcomes : (out : OutcomeOf) (l : Ledger) (es : List Entry) (j : ℕ) (e : Entry) (s : Stage) → slice_get es j ≡ Some e → FitsStage out l es j e s → OutcomesHold out l es → OutcomesHold out l (changed_at (with_stage s) j es)
 changed_outcomes out l es j e s at fits h k n q x c g w d = elim (places.changed_or (with_stage s) j es k x g) [
-    | kept old m ↦ h k n q x c old w d ∙ ap (λ b. stage_by (out c (inputs b x.needs))) (sym (staged out l es j k s))
-    | changed z kj gj fz ↦
-        let z_is : z ≡ e = same_Some z e (sym gj ∙ at) in
-        let work : e.work ≡ Node n q c = ap (λ y. y.work) (sym z_is) ∙ ap (λ y. y.work) fz ∙ w in
-        let done : is_done s ≡ true = ap (λ y. is_done y.stage) fz ∙ d in
-        let needs : e.needs ≡ x.needs = ap (λ y. y.needs) (sym z_is) ∙ ap (λ y. y.needs) fz in
-        ap (λ y. y.stage) (sym fz) ∙ fits n q c work done
-        ∙ ap (λ ns. stage_by (out c (inputs (in_order out l (take j es)) ns))) needs
-        ∙ ap (λ m. stage_by (out c (inputs (in_order out l (take m es)) x.needs))) (sym kj)
-        ∙ ap (λ b. stage_by (out c (inputs b x.needs))) (sym (staged out l es j k s))
-  ]
+  | kept old m ↦ h k n q x c old w d ∙ ap (λ b. stage_by (out c (inputs b x.needs))) (sym (staged out l es j k s))
+  | changed z kj gj fz ↦
+      let z_is : z ≡ e = same_Some z e (sym gj ∙ at) in
+      let work : e.work ≡ Node n q c = ap (λ y. y.work) (sym z_is) ∙ ap (λ y. y.work) fz ∙ w in
+      let done : is_done s ≡ true = ap (λ y. is_done y.stage) fz ∙ d in
+      let needs : e.needs ≡ x.needs = ap (λ y. y.needs) (sym z_is) ∙ ap (λ y. y.needs) fz in
+      ap (λ y. y.stage) (sym fz) ∙ fits n q c work done
+      ∙ ap (λ ns. stage_by (out c (inputs (in_order out l (take j es)) ns))) needs
+      ∙ ap (λ m. stage_by (out c (inputs (in_order out l (take m es)) x.needs))) (sym kj)
+      ∙ ap (λ b. stage_by (out c (inputs b x.needs))) (sym (staged out l es j k s))
+]
 
 -- ---- an access is closed
 
@@ -106,7 +105,7 @@ closed_before out l m es bs cs j k e x at d lt old dx new made same h i =
     ∙ ap (λ b. view (story (tale out given is_over) 0 (take k fs) b)) made
     ∙ ap (λ z. view (story (tale out given is_over) 0 z l.made)) (take_changed (with_stage stage.Done) j k es)
     ∙ ap view (now_done out (closed_with l.closings) given 0 j (take k es) e stage.Done l.made (places.take_has k es j e lt at) d refl (λ a n. same a (λ z. n (omega (arith, z))))
-        (λ a y l1 g o. take_ordered es k (ordered es h.none_overtakes) j a e y l1 (places.take_has k es j e lt at) g d o))
+    (λ a y l1 g o. take_ordered es k (ordered es h.none_overtakes) j a e y l1 (places.take_has k es j e lt at) g d o))
     ∙ after-left out (given (0 + j)) e x.needs (done_in_order out l (take k es)) (λ b a has. earlier_spares e x b a apart has)
     ∙ sym (seen_front view out l es k x (inputs_view x.needs) (ordered es h.none_overtakes) (λ a y l1 g o. h.none_overtakes a k y x l1 g old o not_waiting))
 
@@ -118,18 +117,18 @@ by_order (suc j) (suc k) n = elim (by_order j k (λ e. n (ap suc e))) [ inl a �
 
 closed_outcomes : (out : OutcomeOf) (l m : Ledger) (es : List Entry) (bs cs : List Buffer) (j : ℕ) (e : Entry) → slice_get es j ≡ Some e → is_done e.stage ≡ false → IsNoNode e.work → m.made ≡ l.made → ((i : ℕ) → (i ≡ j → ⊥) → closed_with m.closings i ≡ closed_with l.closings i) → Holds out l es bs → Holds out m (changed_at (with_stage stage.Done) j es) cs → OutcomesHold out l es → OutcomesHold out m (changed_at (with_stage stage.Done) j es)
 closed_outcomes out l m es bs cs j e at d none made same h i o k n q x c g w dx = elim (places.changed_or (with_stage stage.Done) j es k x g) [
-    | kept old away ↦ elim (by_order j k away) [
-        | inl lt ↦ o k n q x c old w dx ∙ ap (λ b. stage_by (out c b)) (sym (closed_before out l m es bs cs j k e x at d lt old dx g made same h i))
-        | inr gt ↦
-            let short = length_take k es in
-            o k n q x c old w dx
-            ∙ ap (λ b. stage_by (out c (inputs b x.needs)))
-              (sym (staged out m es j k stage.Done
-                  ∙ ap (λ b. story (tale out (closed_with m.closings) is_any) 0 (take k es) b) made
-                  ∙ same_front out (closed_with l.closings) (closed_with m.closings) 0 (take k es) l.made (λ a l1. same a (λ z. omega (arith, l1, z, short, gt)))))
-      ]
-    | changed z kj gj fz ↦ absurd (none n q c (ap (λ y. y.work) (same_Some e z (sym at ∙ gj)) ∙ ap (λ y. y.work) fz ∙ w))
+  | kept old away ↦ elim (by_order j k away) [
+    | inl lt ↦ o k n q x c old w dx ∙ ap (λ b. stage_by (out c b)) (sym (closed_before out l m es bs cs j k e x at d lt old dx g made same h i))
+    | inr gt ↦
+        let short = length_take k es in
+        o k n q x c old w dx
+        ∙ ap (λ b. stage_by (out c (inputs b x.needs)))
+        (sym (staged out m es j k stage.Done
+        ∙ ap (λ b. story (tale out (closed_with m.closings) is_any) 0 (take k es) b) made
+        ∙ same_front out (closed_with l.closings) (closed_with m.closings) 0 (take k es) l.made (λ a l1. same a (λ z. omega (arith, l1, z, short, gt)))))
   ]
+  | changed z kj gj fz ↦ absurd (none n q c (ap (λ y. y.work) (same_Some e z (sym at ∙ gj)) ∙ ap (λ y. y.work) fz ∙ w))
+]
 
 -- ---- an ask
 
@@ -143,16 +142,16 @@ wider_outcomes out l es bs x h o k n q e c at w d =
     let long = length_story s 0 (take k es) l.made in
     o k n q e c at w d
     ∙ ap (λ b. stage_by (out c b))
-      (sym (ap (λ b. inputs b e.needs) (wider_story s 0 (take k es) l.made x (λ j y g. named j y (places.in_take k es j y g).1))
-          ∙ wider_inputs (in_order out l (take k es)) x e.needs (subst (λ m. AreNamed m e.needs) (sym long) (named k e at))))
+    (sym (ap (λ b. inputs b e.needs) (wider_story s 0 (take k es) l.made x (λ j y g. named j y (places.in_take k es j y g).1))
+    ∙ wider_inputs (in_order out l (take k es)) x e.needs (subst (λ m. AreNamed m e.needs) (sym long) (named k e at))))
 
 added_outcomes : (out : OutcomeOf) (l : Ledger) (es : List Entry) (e : Entry) → is_done e.stage ≡ false → OutcomesHold out l es → OutcomesHold out l (es ++ e ∷ [])
 added_outcomes out l es e live o k n q x c g w d = elim (places.last_or es e k x g) [
-    | inl old ↦
-        let lt = slice_get_within es k x old in
-        o k n q x c old w d ∙ ap (λ z. stage_by (out c (inputs (in_order out l z) x.needs))) (sym (places.take_front es e k (omega (arith, lt))))
-    | inr last ↦ let z : true ≡ false = sym d ∙ ap (λ y. is_done y.stage) (sym last.1) ∙ live in absurd cc
-  ]
+  | inl old ↦
+      let lt = slice_get_within es k x old in
+      o k n q x c old w d ∙ ap (λ z. stage_by (out c (inputs (in_order out l z) x.needs))) (sym (places.take_front es e k (omega (arith, lt))))
+  | inr last ↦ let z : true ≡ false = sym d ∙ ap (λ y. is_done y.stage) (sym last.1) ∙ live in absurd cc
+]
 
 change_outcomes : (out : OutcomeOf) (l : Ledger) (es fs : List Entry) (bs cs : List Buffer) (closes : List (ℕ × List ℤ)) → Change es fs bs cs closes → Holds out l es bs → OutcomesHold out l es → OutcomesHold out (after_change l bs cs closes) fs
 change_outcomes out l es fs bs cs closes (quiet p q r) h o =

@@ -47,6 +47,13 @@ changed_get f k [] x h = absurd (none-some x h)
 changed_get f zero (y ∷ xs) x h = ap (option_map f) h
 changed_get f (suc k) (y ∷ xs) x h = changed_get f k xs x h
 
+pub changed_other : {A : Type 0} (f : A → A) (k : ℕ) (xs : List A) (j : ℕ) → (j ≡ k → ⊥) → slice_get (changed_at f k xs) j ≡ slice_get xs j
+changed_other f k [] j n = refl
+changed_other f zero (x ∷ xs) zero n = absurd (n refl)
+changed_other f zero (x ∷ xs) (suc j) n = refl
+changed_other f (suc k) (x ∷ xs) zero n = refl
+changed_other f (suc k) (x ∷ xs) (suc j) n = changed_other f k xs j (λ e. n (ap suc e))
+
 pub length_changed : {A : Type 0} (f : A → A) (k : ℕ) (xs : List A) → length (changed_at f k xs) ≡ length xs
 length_changed f k [] = refl
 length_changed f zero (x ∷ xs) = refl

@@ -12,6 +12,7 @@ use Rattle.sy_work.specs.declared.asks.Answer.TheVariants.{Done as Answered}
 use Rattle.sy_work.specs.declared.asks.NewBuffer.{NewBuffer}
 use Rattle.sy_work.specs.declared.asks.NewQueue.{NewQueue}
 use Rattle.sy_work.specs.declared.asks.Submission.{Submission}
+use Rattle.sy_work.specs.declared.commands.Command.{Command}
 use Rattle.sy_work.specs.declared.commands.Outcome.{Outcome}
 use Rattle.sy_work.specs.declared.commands.Outcome.TheVariants.{Wrote, Failed as CommandFailed}
 use Rattle.sy_work.specs.declared.endings.KernelError.{KernelError}
@@ -46,9 +47,17 @@ owner (Node n q c) = None
 owner (Access t i) = Some t
 owner (End t r) = Some t
 
-pub end_owner : (u r : ℕ) (w : Work) → w ≡ End u r → owner w ≡ Some u
+pub node_owner : (n q : ℕ) (c : Command) → owner (Node n q c) ≡ None
 unfolding owner
-end_owner u r w h = ap owner h
+node_owner n q c = refl
+
+pub access_owner : (t i : ℕ) → owner (Access t i) ≡ Some t
+unfolding owner
+access_owner t i = refl
+
+pub end_owner : (t r : ℕ) → owner (End t r) ≡ Some t
+unfolding owner
+end_owner t r = refl
 
 -- an entry of the list is pending, and a thread's
 pub record IsOf (es : List Entry) (k u : ℕ) (e : Entry) : Type 0 where

@@ -1,4 +1,4 @@
--- What a history of steps says beside the entries: the first numbers of each buffer, and what accesses were closed with.
+-- What a history of steps says beside the entries: the first numbers of buffers, and those that accesses were closed with.
 use Rattle.std.specs.Prelude.{ℕ, ℤ, Bool, false, not, ◌&&◌, ◌==◌, if◌then◌else◌, List, [], ◌∷◌, ◌++◌, length, drop, Option, Some, None, slice_get}
 use Rattle.sy_work.specs.Programs.{Program, OutcomeOf}
 use Rattle.sy_work.specs.declared.asks.Ask.{Ask}
@@ -13,24 +13,26 @@ use Rattle.sy_inorder.specs.Story.{story, is_any, is_over}
 pub record Ledger : Type 0 where
   -- the buffers as they were made
   pub made : List Buffer
-  -- the entries of the accesses that were closed, each with the numbers that it was closed with
+  -- the places of the accesses that were closed, each with the numbers that it was closed with
   pub closings : List (ℕ × List ℤ)
 
--- the numbers that the entry at k was closed with, or none
+-- the numbers that the access at k was closed with: none, if it is still open
 abbrev pub closed_with : List (ℕ × List ℤ) → ℕ → List ℤ
 closed_with [] k = []
 closed_with (c ∷ cs) k = if c.0 == k then c.1 else closed_with cs k
 
+-- the entry is there, and done
 abbrev pub over_at : Option Entry → Bool
 over_at None = false
 over_at (Some e) = is_done e.stage
 
+-- the access at k with these numbers, if it was not done before and is after
 abbrev pub closing_at : List Entry → List Entry → List ℤ → Option ℕ → List (ℕ × List ℤ)
 closing_at before after values None = []
 closing_at before after values (Some k) =
     if not (over_at (slice_get before k)) && over_at (slice_get after k) then (k, values) ∷ [] else []
 
--- the entry that a close by thread t takes from open to done, with its numbers
+-- the access that a close by thread t takes from open to done, with the numbers that it is given
 unfoldable pub closing : List Entry → List Entry → ℕ → Ask → List (ℕ × List ℤ)
 closing before after t (CloseHost i values) = closing_at before after values (access_from 0 before t i)
 closing before after t q = []
@@ -47,9 +49,11 @@ noted l b t q =
       closings = closing b.entries (asked b t q).entries t q ++ l.closings;
     }
 
+-- nothing is made yet
 abbrev pub empty : Ledger
 empty = record { made = []; closings = [] }
 
+-- the ledger after further steps
 abbrev pub ledger_from : Program → State → Ledger → List ℕ → Ledger
 ledger_from p s l [] = l
 ledger_from p s l (t ∷ ts) = ledger_from p (step p s t) (noted l s.board t (next_ask p s t)) ts

@@ -39,7 +39,7 @@ after_work out values needs (Node n q c) buffers = buffers_after needs (log_of (
 after_work out values needs (Access t i) buffers = put needs values buffers
 after_work out values needs (End t r) buffers = buffers
 
--- a story: what commands do, what each entry that is a host access put back, and the entries that the story tells of
+-- what a story is told with: what commands do, what the access at each place put back, and which entries it tells of
 pub record Telling : Type 0 where
   pub out : OutcomeOf
   pub given : ℕ → List ℤ
@@ -54,9 +54,11 @@ abbrev pub story : Telling → ℕ → List Entry → List Buffer → List Buffe
 story s k [] buffers = buffers
 story s k (e ∷ es) buffers = story s (suc k) es (told s k e buffers)
 
+-- the test of the story of what is done
 abbrev pub is_over : Entry → Bool
 is_over e = is_done e.stage
 
+-- the test of the story of all
 abbrev pub is_any : Entry → Bool
 is_any e = true
 
