@@ -2,7 +2,7 @@
 use Rattle.std.proofs.Common.{◌≡◌, ℕ, zero, suc, ◌+◌, ◌-◌, ◌<◌, ◌≤◌, ℤ, List, [], ◌∷◌, ◌++◌, length, Bool, true, false, Option, Some, None, refl, sym, ap, ◌∙◌, arith}
 use Rattle.std.specs.Prelude.{slice_get, not, ◌&&◌, ◌==◌, ◌^◌, nat_lt, nat_le, if◌then◌else◌}
 use Rattle.std.specs.List.{list_all}
-use Rattle.std.proofs.lemmas.Option.{same_Some, none-some}
+use Rattle.std.proofs.lemmas.Option.{same_Some, none-some, slice_get_within}
 use Rattle.sy_access.specs.declared.access.Need.{Need}
 use Rattle.sy_access.specs.declared.access.Mode.TheVariants.{ReadWrite}
 use Rattle.sy_access.specs.Needs.{writes}
@@ -100,15 +100,10 @@ ended-numbers r [] = refl
 ended-numbers zero (x ∷ bs) = refl
 ended-numbers (suc r) (x ∷ bs) = ap (λ l. x.values ∷ l) (ended-numbers r bs)
 
-is_there : (bs : List Buffer) (r : ℕ) (x : Buffer) → slice_get bs r ≡ Some x → r < length bs
-is_there [] r x h = absurd (none-some x h)
-is_there (y ∷ bs) zero x h = omega arith
-is_there (y ∷ bs) (suc r) x h = let i : r < length bs = is_there bs r x h in omega arith
-
 end_root-change : (b : Board) (t r : ℕ) (x : Buffer) (o : Origin) → slice_get b.buffers r ≡ Some x → Became b (end_root b t r x o)
 unfolding end_root AreNamed Fits StandsAlone
 end_root-change b t r x Vector h =
-    added _ refl (record { named = (is_there b.buffers r x h, tt); fits = ap (λ o. all_of r (length (values_of o)) ∷ []) (sym h); alone = tt }) refl (ended-numbers r b.buffers) refl
+    added _ refl (record { named = (slice_get_within b.buffers r x h, tt); fits = ap (λ o. all_of r (length (values_of o)) ∷ []) (sym h); alone = tt }) refl (ended-numbers r b.buffers) refl
 end_root-change b t r x Range h = quiet refl (ended-numbers r b.buffers) refl
 end_root-change b t r x Part h = quiet refl (ended-numbers r b.buffers) refl
 
@@ -183,9 +178,10 @@ nothing_closed : (b : Board) (values : List ℤ) (k : ℕ) → Closing b values 
 unfolding Closing
 nothing_closed b values k = quiet refl refl (ap (λ v. if v then (k, values) ∷ [] else []) (not_both (over_at (slice_get b.entries k))))
 
-same_entries : (v : Bool) (b c : Board) → c.entries ≡ b.entries → (if v then c else b).entries ≡ b.entries
-same_entries true b c h = h
-same_entries false b c h = refl
+-- a part of the board that is the same on both sides of a choice
+pub same_part : {A : Type 0} (part : Board → A) (v : Bool) (b c : Board) → part c ≡ part b → part (if v then c else b) ≡ part b
+same_part part true b c h = h
+same_part part false b c h = refl
 
 chosen_buffers : (v : Bool) (b c : Board) → (if v then c else b).buffers ≡ (if v then c.buffers else b.buffers)
 chosen_buffers true b c = refl
@@ -193,7 +189,7 @@ chosen_buffers false b c = refl
 
 put_back-entries : (b : Board) (n : Need) (values : List ℤ) → (put_back b n values).entries ≡ b.entries
 unfolding put_back
-put_back-entries b n values = same_entries (writes n.mode) b _ refl
+put_back-entries b n values = same_part (λ (c : Board). c.entries) (writes n.mode) b _ refl
 
 put_back-buffers : (b : Board) (n : Need) (ns : List Need) (values : List ℤ) → (put_back b n values).buffers ≡ put (n ∷ ns) values b.buffers
 unfolding put_back put

@@ -30,8 +30,8 @@ use Rattle.sy_inorder.proofs.Changes.{Fits, all_of}
 use Rattle.sy_inorder.proofs.Told.{tale, same_rows}
 use Rattle.sy_inorder.proofs.Running.{free_pending}
 use Rattle.sy_inorder.proofs.Sees.{given_inputs, story-rows, effect_board, effect_sees, element_view}
-use Rattle.sy_inorder.proofs.Granted.{due_stays, legal_there}
-use Rattle.sy_inorder.proofs.Waiting.{owner, node_owner, access_owner, end_owner, BoardWaited, effect_moves, effect_spares, asked_waited, upto_waited, legal_ready, seq_waited}
+use Rattle.sy_inorder.proofs.Granted.{due_stays, legal_ready, legal_there}
+use Rattle.sy_inorder.proofs.Waiting.{owner, node_owner, access_owner, end_owner, BoardWaited, effect_moves, effect_spares, asked_waited, upto_waited, seq_waited}
 
 -- ---- the numbers
 

@@ -84,15 +84,11 @@ still_upto out b es e zero p h le = refl
 still_upto out b es e (suc n) p h le =
     ap (settle_one out n) (still_upto out b es e n p h (omega (arith, le))) ∙ still_by out b es e n (slice_get b.entries n) p h (omega (arith, le)) refl
 
-length_push : (es : List Entry) (e : Entry) → length (es ++ e ∷ []) ≡ suc (length es)
-length_push [] e = refl
-length_push (x ∷ es) e = ap suc (length_push es e)
-
 -- so a pass is the effect of the new one, if it is free
 pass_last : (out : OutcomeOf) (b : Board) (es : List Entry) (e : Entry) → b.entries ≡ es ++ e ∷ [] → ((j : ℕ) (x : Entry) → slice_get es j ≡ Some x → is_free es j x ≡ false) → is_free b.entries (length es) e ≡ true → settle out b ≡ effect out b (length es) e e.work
 unfolding settle_entry
 pass_last out b es e p h free =
-    ap (settle_upto out b) (ap length p ∙ length_push es e)
+    ap (settle_upto out b) (ap length p ∙ places.length_more es e)
     ∙ ap (settle_one out (length es)) (still_upto out b es e (length es) p h (omega arith))
     ∙ ap (settle_entry out b (length es)) (ap (λ l. slice_get l (length es)) p ∙ places.at_last es e)
     ∙ ap (λ v. if v then effect out b (length es) e e.work else b) free
@@ -128,15 +124,15 @@ ready_there [] t h = let z : false ≡ true = h in absurd cc
 ready_there (w ∷ ws) zero h = omega arith
 ready_there (w ∷ ws) (suc t) h = let i : t < length ws = ready_there ws t h in omega arith
 
-pub legal_there : (p : Program) (s : State) (t : ℕ) → is_legal p s t ≡ true → t < length s.board.waits
+pub legal_ready : (p : Program) (s : State) (t : ℕ) → is_legal p s t ≡ true → ready_at (slice_get s.board.waits t) ≡ true
 unfolding may_step
-legal_there p s t h =
-    ready_there s.board.waits t (and_first (ready_at (slice_get s.board.waits t)) (is_clear s.board (next_ask p s t)) (and_second (goes_on s.board) _ (and_first (goes_on s.board && (ready_at (slice_get s.board.waits t) && is_clear s.board (next_ask p s t))) _ h)))
+legal_ready p s t h =
+    let clear = is_clear s.board (next_ask p s t) in
+    let ready = ready_at (slice_get s.board.waits t) in
+    and_first ready clear (and_second (goes_on s.board) (ready && clear) (and_first (goes_on s.board && (ready && clear)) _ h))
 
-length_slice_set : (ws : List Waits) (t : ℕ) (w : Waits) → length (slice_set ws t w) ≡ length ws
-length_slice_set [] t w = refl
-length_slice_set (x ∷ ws) zero w = refl
-length_slice_set (x ∷ ws) (suc t) w = ap suc (length_slice_set ws t w)
+pub legal_there : (p : Program) (s : State) (t : ℕ) → is_legal p s t ≡ true → t < length s.board.waits
+legal_there p s t h = ready_there s.board.waits t (legal_ready p s t h)
 
 turn_due : (out : OutcomeOf) (b : Board) (t : ℕ) (n : Need) → IsSettled b → t < length b.waits → is_root_need b.buffers n ≡ true → only_reads (n ∷ []) ≡ true → all_let_read b.entries ≡ true → slice_get (turn out b t (OpenHost n)).waits t ≡ Some (Due (Contents (first_of (inputs b.buffers (n ∷ [])))))
 unfolding turn give_all
@@ -146,8 +142,8 @@ turn_due out b t n still there root reads let_read =
     let held : is_held b.entries e ≡ false = not_held b.entries e (keep_off b.entries e reads let_read) (follows_nothing b.entries e refl refl) in
     let pass : settle out c ≡ effect out c (length b.entries) e e.work = pass_last out c b.entries e refl (λ j x g. still j x g) (newly_free b.entries e c.entries refl refl held) in
     let long : t < length c.waits =
-    let x = length_slice_set (slice_set b.waits t Never) t OnEntry in
-    let y = length_slice_set b.waits t Never in omega (arith, there, x, y) in
+    let x = places.length_slice_set (slice_set b.waits t Never) t OnEntry in
+    let y = places.length_slice_set b.waits t Never in omega (arith, there, x, y) in
     let due : slice_get (settle out c).waits t ≡ Some (Due (Contents (first_of (inputs b.buffers (n ∷ []))))) =
     ap (λ (d : Board). slice_get d.waits t) pass ∙ effect_due out c (length b.entries) t (accesses b.entries t) e long in
     ap (λ d. slice_get (map (given (settle out d)) (settle out d).waits) t) (opened_is b t n root)

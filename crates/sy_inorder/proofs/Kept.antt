@@ -19,7 +19,7 @@ use Rattle.sy_onecopy.specs.Settle.{with_stage}
 use Rattle.sy_inorder.specs.Story.{after_work, numbers_of, story, is_over}
 use Rattle.sy_inorder.specs.Ledger.{Ledger, closed_with, done_in_order}
 use Rattle.sy_inorder.proofs.Bools.{or_left}
-use Rattle.sy_inorder.proofs.Places.{last_or, changed_or}
+use Rattle.sy_inorder.proofs.Places.{last_or, changed_or, length_more}
 use Rattle.sy_inorder.proofs.Places.WasAt.{kept, changed}
 use Rattle.sy_inorder.proofs.Changes.{AreNamed, Fits, IsSound, Change, all_of}
 use Rattle.sy_inorder.proofs.Changes.Change.{quiet, wider, added, shut}
@@ -75,10 +75,6 @@ same_extends bs cs h = record {
   longer = let e = same_length bs cs h in omega (arith, e);
   rows = λ r l. ap length (same_rows cs bs h r);
 }
-
-length_more : (bs : List Buffer) (x : Buffer) → length (bs ++ x ∷ []) ≡ suc (length bs)
-length_more [] x = refl
-length_more (y ∷ bs) x = ap suc (length_more bs x)
 
 wider_extends : (bs : List Buffer) (x : Buffer) → Extends bs (bs ++ x ∷ [])
 wider_extends bs x = record {

@@ -99,3 +99,12 @@ set_other (x ∷ xs) (suc k) y (suc j) h = set_other xs k y j (λ e. h (ap suc e
 pub take_all : {A : Type 0} (xs : List A) → take (length xs) xs ≡ xs
 take_all [] = refl
 take_all (x ∷ xs) = ap (λ l. x ∷ l) (take_all xs)
+
+pub length_more : {A : Type 0} (xs : List A) (x : A) → length (xs ++ x ∷ []) ≡ suc (length xs)
+length_more [] x = refl
+length_more (y ∷ xs) x = ap suc (length_more xs x)
+
+pub length_slice_set : {A : Type 0} (xs : List A) (k : ℕ) (y : A) → length (slice_set xs k y) ≡ length xs
+length_slice_set [] k y = refl
+length_slice_set (x ∷ xs) zero y = refl
+length_slice_set (x ∷ xs) (suc k) y = ap suc (length_slice_set xs k y)

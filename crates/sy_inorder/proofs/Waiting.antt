@@ -33,13 +33,13 @@ use Rattle.sy_onecopy.specs.Before.{is_free, is_pending}
 use Rattle.sy_onecopy.specs.Outcome.{inputs}
 use Rattle.sy_onecopy.specs.Settle.{with_stage, took, effect, settle_entry, settle_upto, settle}
 use Rattle.sy_onecopy.specs.Step.{printed, made_buffer, made_part, end_root, end_buffer, opened_host, put_back, closed, close_entry, close_at, close_found, made_context, made_queue, submitted, wait_if, thrown, throw_queue, spawned, apply, access_from, error_on, is_root, count_of, is_root_need, has_count, live_elements, holds_together, begun, given, give_all, turn, step, once_heard}
-use Rattle.sy_onecopy.specs.Sequence.{ready_at, is_legal, may_step, goes_on, is_clear, seq, seq_from}
+use Rattle.sy_onecopy.specs.Sequence.{ready_at, is_legal, seq, seq_from}
 use Rattle.sy_inorder.specs.Ledger.{asked}
-use Rattle.sy_inorder.proofs.Bools.{and_first, and_second}
 use Rattle.sy_inorder.proofs.Places as places
 use Rattle.sy_inorder.proofs.Places.WasAt.{kept, changed}
+use Rattle.sy_inorder.proofs.Changes.{same_part}
 use Rattle.sy_inorder.proofs.Running.{one_legal, free_pending}
-use Rattle.sy_inorder.proofs.Granted.{legal_there}
+use Rattle.sy_inorder.proofs.Granted.{legal_ready, legal_there}
 
 -- the thread that an entry answers
 pub owner : Work → Option ℕ
@@ -153,19 +153,11 @@ closed_old es k s p j e g h = elim (places.changed_or (with_stage s) k es j e g)
   | changed z jk gk fz ↦ let w : true ≡ false = sym h ∙ ap (λ x. is_pending x.stage) (sym fz) ∙ p in absurd cc
 ]
 
-put_entries : (v : Bool) (b c : Board) → c.entries ≡ b.entries → (if v then c else b).entries ≡ b.entries
-put_entries true b c h = h
-put_entries false b c h = refl
-
-put_waits : (v : Bool) (b c : Board) → c.waits ≡ b.waits → (if v then c else b).waits ≡ b.waits
-put_waits true b c h = h
-put_waits false b c h = refl
-
 closed-turn : (b : Board) (t : ℕ) (values : List ℤ) (k : ℕ) (n : Need) → Turns t b (closed b t values k n)
 unfolding closed put_back
 closed-turn b t values k n =
-    let es = put_entries (writes n.mode) b _ refl in
-    let ws = put_waits (writes n.mode) b _ refl in
+    let es = same_part (λ (c : Board). c.entries) (writes n.mode) b _ refl in
+    let ws = same_part (λ (c : Board). c.waits) (writes n.mode) b _ refl in
     either (length values == n.to - n.from) t b _ b
     (no_entry (λ j e g p. closed_old b.entries k stage.Done refl j e (ap (λ l. slice_get (changed_at (with_stage stage.Done) k l) j) (sym es) ∙ g) p)
     (λ u d h. ap (λ l. slice_get (slice_set l t (Due Answered)) u) ws ∙ others_set t b.waits _ u d h))
@@ -284,15 +276,10 @@ set_waited es ws t w none h = record {
   alone = h.alone;
 }
 
-length_slice_set : (ws : List Waits) (t : ℕ) (w : Waits) → length (slice_set ws t w) ≡ length ws
-length_slice_set [] t w = refl
-length_slice_set (x ∷ ws) zero w = refl
-length_slice_set (x ∷ ws) (suc t) w = ap suc (length_slice_set ws t w)
-
 pub asked_waited : (b : Board) (t : ℕ) (q : Ask) → t < length b.waits → ready_at (slice_get b.waits t) ≡ true → BoardWaited b → BoardWaited (asked b t q)
 asked_waited b t q lt ready h =
     let none = none_of_ready b.entries b.waits t ready h in
-    let long : t < length (begun b t).waits = let x = length_slice_set b.waits t Never in omega (arith, lt, x) in
+    let long : t < length (begun b t).waits = let x = places.length_slice_set b.waits t Never in omega (arith, lt, x) in
     turned_waited t b.entries (asked b t q).entries (begun b t).waits (asked b t q).waits (apply-turn (begun b t) t q long) none (set_waited b.entries b.waits t Never none h)
 
 -- ---- the pass
@@ -367,11 +354,6 @@ given_waited b es ws h = record {
   waits = λ k u e p. slice_get-map once_heard (map (given b) ws) u ∙ ap (option_map once_heard) (slice_get-map (given b) ws u ∙ ap (option_map (given b)) (h.waits k u e p));
   alone = h.alone;
 }
-
-pub legal_ready : (p : Program) (s : State) (t : ℕ) → is_legal p s t ≡ true → ready_at (slice_get s.board.waits t) ≡ true
-unfolding may_step
-legal_ready p s t h =
-    and_first (ready_at (slice_get s.board.waits t)) (is_clear s.board (next_ask p s t)) (and_second (goes_on s.board) _ (and_first (goes_on s.board && (ready_at (slice_get s.board.waits t) && is_clear s.board (next_ask p s t))) _ h))
 
 step_waited : (p : Program) (s : State) (t : ℕ) → is_legal p s t ≡ true → BoardWaited s.board → BoardWaited (step p s t).board
 unfolding step turn give_all
