@@ -1,11 +1,10 @@
 -- Accesses that only read are granted at once.
 use Rattle.std.proofs.Common.{◌≡◌, ℕ, zero, suc, ◌<◌, ◌≤◌, List, [], ◌∷◌, ◌++◌, length, take, map, Bool, true, false, Option, Some, None, refl, sym, ap, ◌∙◌, subst, arith}
-use Rattle.std.specs.Prelude.{slice_get, slice_set, not, ◌&&◌, if◌then◌else◌, option_map, nat_lt}
-use Rattle.std.proofs.lemmas.Option.{same_Some, none-some, slice_get-map, slice_get_within}
+use Rattle.std.specs.Prelude.{slice_get, slice_set, not, ◌&&◌, if◌then◌else◌, option_map}
+use Rattle.std.proofs.lemmas.Option.{same_Some, none-some, slice_get-map}
 use Rattle.sy_access.specs.declared.access.Need.{Need}
 use Rattle.sy_work.specs.Programs.{OutcomeOf, Program}
-use Rattle.sy_work.specs.declared.asks.Ask.{Ask}
-use Rattle.sy_work.specs.declared.asks.Ask.TheVariants.{OpenHost, Spawn}
+use Rattle.sy_work.specs.declared.asks.Ask.TheVariants.{OpenHost}
 use Rattle.sy_work.specs.declared.asks.Answer.{Answer}
 use Rattle.sy_work.specs.declared.asks.Answer.TheVariants.{Contents}
 use Rattle.sy_onecopy.specs.declared.Entry.{Entry}
@@ -13,12 +12,12 @@ use Rattle.sy_onecopy.specs.declared.Work.{Work}
 use Rattle.sy_onecopy.specs.declared.Work.TheVariants.{Access}
 use Rattle.sy_onecopy.specs.declared.Waits.{Waits}
 use Rattle.sy_onecopy.specs.declared.Waits.TheVariants.{Due, Never, OnEntry}
-use Rattle.sy_onecopy.specs.State.{Board, State, Thread, new_thread, start, next_ask}
+use Rattle.sy_onecopy.specs.State.{Board, State, start, next_ask}
 use Rattle.sy_onecopy.specs.Before.{is_free, is_held, is_pending}
 use Rattle.sy_onecopy.specs.Laws.{IsSettled}
 use Rattle.sy_onecopy.specs.Outcome.{inputs}
 use Rattle.sy_onecopy.specs.Settle.{await, effect, settle_entry, settle_upto, settle, settle_one, first_of}
-use Rattle.sy_onecopy.specs.Step.{grown, hear, hear_all, add_entry, access_entry, accesses, is_root_need, opened_host, apply, begun, given, give_all, turn, step}
+use Rattle.sy_onecopy.specs.Step.{add_entry, access_entry, accesses, is_root_need, opened_host, apply, begun, given, give_all, turn, step}
 use Rattle.sy_onecopy.specs.Sequence.{ready_at, is_legal, may_step, goes_on, is_clear, seq, seq_from}
 use Rattle.sy_onecopy.proofs.Settled.{settled}
 use Rattle.sy_inorder.specs.Effects.{turned}
@@ -152,24 +151,3 @@ turn_due out b t n still there root reads let_read =
 pub opened_due : (p : Program) (order : List ℕ) (s : State) (t : ℕ) (n : Need) → seq p order ≡ Some s → is_legal p s t ≡ true → next_ask p s t ≡ OpenHost n → is_root_need s.board.buffers n ≡ true → only_reads (n ∷ []) ≡ true → all_let_read s.board.entries ≡ true → slice_get (turned p s t).waits t ≡ Some (Due (Contents (first_of (inputs s.board.buffers (n ∷ [])))))
 opened_due p order s t n legal may ask root reads let_read =
     ap (λ q. slice_get (turn p.outcome s.board t q).waits t) ask ∙ turn_due p.outcome s.board t n (seq_settled p order s legal) (legal_there p s t may) root reads let_read
-
--- ---- the thread hears it
-
-heard_at : (ws : List Waits) (xs : List Thread) (u : ℕ) (a : Answer) (x : Thread) → slice_get ws u ≡ Some (Due a) → slice_get xs u ≡ Some x → slice_get (hear_all ws xs) u ≡ Some (record x { answers = x.answers ++ a ∷ [] })
-heard_at [] xs u a x h g = absurd (none-some (Due a) h)
-heard_at (w ∷ ws) [] u a x h g = absurd (none-some x g)
-heard_at (w ∷ ws) (y ∷ xs) zero a x h g = ap (λ v. Some (hear v y)) (same_Some w (Due a) h) ∙ ap (λ z. Some (hear (Due a) z)) (same_Some y x g)
-heard_at (w ∷ ws) (y ∷ xs) (suc u) a x h g = heard_at ws xs u a x h g
-
-more_threads : (v : Bool) (xs : List Thread) (new : Thread) (u : ℕ) (x : Thread) → slice_get xs u ≡ Some x → slice_get (if v then xs ++ new ∷ [] else xs) u ≡ Some x
-more_threads true xs new u x h = places.get_front xs new u (slice_get_within xs u x h) ∙ h
-more_threads false xs new u x h = h
-
-still_there : (b : Board) (q : Ask) (xs : List Thread) (u : ℕ) (x : Thread) → slice_get xs u ≡ Some x → slice_get (grown b q xs) u ≡ Some x
-unfolding grown
-still_there b (Spawn body captures) xs u x h = more_threads (nat_lt (length xs) (length b.waits)) xs (new_thread body captures) u x h
-still_there b q xs u x h = h
-
-pub heard : (p : Program) (s : State) (t u : ℕ) (a : Answer) (x : Thread) → slice_get (turned p s t).waits u ≡ Some (Due a) → slice_get s.threads u ≡ Some x → slice_get (step p s t).threads u ≡ Some (record x { answers = x.answers ++ a ∷ [] })
-unfolding step
-heard p s t u a x due there = heard_at (turned p s t).waits (grown (turned p s t) (next_ask p s t) s.threads) u a x due (still_there (turned p s t) (next_ask p s t) s.threads u x there)

@@ -2,31 +2,29 @@
 
 ghost use Rattle.std.specs.Prelude.{◌≡◌, ◌++◌, ◌<◌, ◌-◌, ℕ, suc, ℤ, List, [], ◌∷◌, true, false, length, take, drop, Some, slice_get};
 ghost use Rattle.sy_access.specs.declared.access.Need.{Need};
-ghost use Rattle.sy_access.specs.Needs.{has_cell, writes};
-ghost use Rattle.sy_work.specs.declared.asks.Answer.{Answer};
-ghost use Rattle.sy_work.specs.declared.asks.Ask.TheVariants.{OpenHost};
-ghost use Rattle.sy_work.specs.declared.asks.Answer.TheVariants.{Contents};
-ghost use Rattle.sy_work.specs.Programs.{OutcomeOf, Program};
-ghost use Rattle.sy_onecopy.specs.declared.Entry.{Entry};
-ghost use Rattle.sy_onecopy.specs.declared.Work.TheVariants.{Node, Access, End};
-ghost use Rattle.sy_onecopy.specs.declared.Waits.TheVariants.{Due};
-ghost use Rattle.sy_onecopy.specs.Before.{before, is_done, is_held, is_pending};
-ghost use Rattle.sy_onecopy.specs.Outcome.{inputs, values_at};
-ghost use Rattle.sy_onecopy.specs.Sequence.{is_legal, seq};
-ghost use Rattle.sy_onecopy.specs.Settle.{first_of, settle_upto};
-ghost use Rattle.sy_onecopy.specs.State.{Board, State, Thread, next_ask};
-ghost use Rattle.sy_onecopy.specs.Step.{is_root_need, step};
-ghost use Rattle.sy_inorder.specs.Effects.{TakesEffect, turned};
-ghost use Rattle.sy_inorder.specs.Ledger.{Ledger, asked, closed_with, done_in_order, in_order, ledger_of};
-ghost use Rattle.sy_inorder.specs.Story.{Telling, element, numbers_of, some_has, some_writes, stage_by, story};
 ghost use Rattle.sy_access.specs.declared.cells.Cell.{Cell};
 ghost use Rattle.sy_access.specs.declared.cells.Cell.TheVariants as cell;
 ghost use Rattle.sy_access.specs.Logs.{logged};
+ghost use Rattle.sy_access.specs.Needs.{has_cell, writes};
+ghost use Rattle.sy_work.specs.declared.asks.Answer.TheVariants.{Contents};
+ghost use Rattle.sy_work.specs.declared.asks.Ask.TheVariants.{OpenHost};
 ghost use Rattle.sy_work.specs.declared.commands.Command.{Command};
 ghost use Rattle.sy_work.specs.declared.commands.Outcome.TheVariants.{Wrote};
+ghost use Rattle.sy_work.specs.Programs.{OutcomeOf, Program};
 ghost use Rattle.sy_onecopy.specs.declared.Buffer.{Buffer};
-ghost use Rattle.sy_onecopy.specs.Outcome.{is_written};
+ghost use Rattle.sy_onecopy.specs.declared.Entry.{Entry};
+ghost use Rattle.sy_onecopy.specs.declared.Waits.TheVariants.{Due};
+ghost use Rattle.sy_onecopy.specs.declared.Work.TheVariants.{Node, Access, End};
+ghost use Rattle.sy_onecopy.specs.Before.{before, is_done, is_held, is_pending};
+ghost use Rattle.sy_onecopy.specs.Outcome.{inputs, is_written, values_at};
+ghost use Rattle.sy_onecopy.specs.Sequence.{is_legal, seq};
+ghost use Rattle.sy_onecopy.specs.Settle.{first_of, settle_upto};
+ghost use Rattle.sy_onecopy.specs.State.{Board, State, next_ask};
+ghost use Rattle.sy_onecopy.specs.Step.{is_root_need};
+ghost use Rattle.sy_inorder.specs.Effects.{TakesEffect, turned};
+ghost use Rattle.sy_inorder.specs.Ledger.{Ledger, asked, closed_with, done_in_order, in_order, ledger_of};
 ghost use Rattle.sy_inorder.specs.Reading.{all_keep_off, all_let_read, follows, follows_none, only_reads};
+ghost use Rattle.sy_inorder.specs.Story.{Telling, element, numbers_of, some_has, some_writes, stage_by, story};
 
 /// Of two entries that only read, neither waits for the other, unless it names it or they are nodes
 /// of one in-order queue. In each state of a legal sequence an entry that meets and follows none of
@@ -39,11 +37,6 @@ pub fn readers_do_not_wait()
     ensures moves { (p : Program) (order : List ℕ) (s : State) (k : ℕ) (e : Entry) → seq p order ≡ Some s → slice_get s.board.entries k ≡ Some e → all_keep_off e (take k s.board.entries) ≡ true → follows_none e (take k s.board.entries) ≡ true → is_pending e.stage ≡ false }
     ensures granted { (p : Program) (order : List ℕ) (s : State) (k t i : ℕ) (e : Entry) → seq p order ≡ Some s → slice_get s.board.entries k ≡ Some e → e.work ≡ Access t i → only_reads e.needs ≡ true → all_let_read (take k s.board.entries) ≡ true → is_pending e.stage ≡ false }
     ensures opened { (p : Program) (order : List ℕ) (s : State) (t : ℕ) (n : Need) → seq p order ≡ Some s → is_legal p s t ≡ true → next_ask p s t ≡ OpenHost n → is_root_need s.board.buffers n ≡ true → only_reads (n ∷ []) ≡ true → all_let_read s.board.entries ≡ true → slice_get (turned p s t).waits t ≡ Some (Due (Contents (first_of (inputs s.board.buffers (n ∷ []))))) }
-{}
-
-/// An answer that is due after a turn reaches its thread in that step.
-pub fn due_answers_are_heard()
-    ensures { (p : Program) (s : State) (t u : ℕ) (a : Answer) (x : Thread) → slice_get (turned p s t).waits u ≡ Some (Due a) → slice_get s.threads u ≡ Some x → slice_get (step p s t).threads u ≡ Some (record x { answers = x.answers ++ a ∷ [] }) }
 {}
 
 /// In the plain story an element that no entry writes keeps its first number, and else it has what

@@ -3,7 +3,6 @@ use super::*;
 #[test]
 fn laws_can_be_called(_rt: HostRuntime) {
     laws::readers_do_not_wait();
-    laws::due_answers_are_heard();
     laws::the_last_writer_decides();
     laws::commands_run_as_if_in_order();
     laws::what_leaves_the_pending_ones_took_effect();
