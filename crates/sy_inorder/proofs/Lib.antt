@@ -1,0 +1,13 @@
+pub mod Bools
+pub mod Places
+pub mod Changes
+pub mod Cells
+pub mod Told
+pub mod Kept
+pub mod Running
+pub mod Sees
+pub mod Outcomes
+pub mod Readers
+pub mod Granted
+pub mod Waiting
+pub mod Ended

@@ -1,0 +1,4 @@
+pub mod Story
+pub mod Ledger
+pub mod Effects
+pub mod Reading

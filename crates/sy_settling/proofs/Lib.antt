@@ -1,0 +1,13 @@
+pub mod Lists
+pub mod Cells
+pub mod Acts
+pub mod Free
+pub mod Kept
+pub mod Settling
+pub mod Asks
+pub mod Follows
+pub mod Late
+pub mod Alike
+pub mod Orders
+pub mod Told
+pub mod Lagging

@@ -1,0 +1,5 @@
+pub mod Lists
+pub mod Standing
+pub mod Keeping
+pub mod Fit
+pub mod Few

@@ -1,0 +1,5 @@
+use Rattle.sy_sound.proofs.Fit.{node_fits}
+use Rattle.sy_sound.proofs.laws.inputs_fit.Goals as goal
+
+pub returns : goal.returns
+returns c = node_fits
