@@ -51,23 +51,23 @@ module _ (o : Outside) (set : Settings) (run : Run) (ready : Ready) (bytes : Lis
   tail_is : ready.tail.items ≡ tail_of set run.order.items (commands is.program run.order.items) run.copies
   tail_is = is.tail ∙ ap (λ l. tail_of set l (commands is.program l) ready.copies) (sym order) ∙ ap (tail_of set run.order.items (commands is.program run.order.items)) (sym copies)
 
-  is_run_of : has_run run.ended ≡ true → IsRunOf o set is.program run ready.ending ready.output.items
+  is_run_of : has_run run.ended ≡ true → IsRunOf o set is.program run ready.ending ready.output
   is_run_of h = record {
     bytes = bytes;
     whole = whole;
     within = within;
     accepted = is.accepted;
-    makes = subst (λ l. IsRun is.program l ready.ending ready.output.items run.copies) (sym order) (subst (IsRun is.program ready.order.items ready.ending ready.output.items) (sym copies) is.run);
+    makes = subst (λ l. IsRun is.program l ready.ending ready.output run.copies) (sym order) (subst (IsRun is.program ready.order.items ready.ending ready.output) (sym copies) is.run);
     main_alone = subst (All (λ t. t ≡ 0)) (sym order) is.main_alone;
     told = subst (Told o run.note) (ap (λ l. line_of run.ended ++ l) tail_is ∙ told_whole set run.ended run.order.items (commands is.program run.order.items) run.copies h) told;
   }
 
-  by_case : ((run.ended ≡ ended.WriteFault) × AppendsFront o.out_old o.out_new ready.output.items × Rose o.out_before o.out_after) ⊎ ((run.ended ≡ ended_by ready.ending) × Appends o.out_old o.out_new ready.output.items) → HasCause o set run
+  by_case : ((run.ended ≡ ended.WriteFault) × AppendsFront o.out_old o.out_new ready.output × Rose o.out_before o.out_after) ⊎ ((run.ended ≡ ended_by ready.ending) × Appends o.out_old o.out_new ready.output) → HasCause o set run
   by_case (inl (e, front, rose)) =
       subst (Cause o set run) (sym e) (record {
         program = is.program;
         end = ready.ending;
-        output = ready.output.items;
+        output = ready.output;
         is_run = is_run_of (ap has_run e);
         written = front;
         fault = rose;
@@ -75,10 +75,10 @@ module _ (o : Outside) (set : Settings) (run : Run) (ready : Ready) (bytes : Lis
   by_case (inr (e, all)) =
       subst (Cause o set run) (sym e) (cause_of o set run ready.ending (record {
         program = is.program;
-        output = ready.output.items;
+        output = ready.output;
         is_run = is_run_of (ap has_run e ∙ run_began ready.ending);
         written = all;
       }))
 
-  pub has_cause : Writes o.out_old o.out_new o.out_before o.out_after ready.ending ready.output.items run.ended → HasCause o set run
-  has_cause w = by_case (whole_or_fault _ _ _ _ ready.ending ready.output.items run.ended w)
+  pub has_cause : Writes o.out_old o.out_new o.out_before o.out_after ready.ending ready.output run.ended → HasCause o set run
+  has_cause w = by_case (whole_or_fault _ _ _ _ ready.ending ready.output run.ended w)

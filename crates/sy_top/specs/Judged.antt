@@ -26,7 +26,7 @@ use Rattle.sy_top.specs.Notes.{line_of, tail_of, ended_by}
 pub record IsReady (set : Settings) (bytes : List ℕ) (ready : Ready) : Type 0 where
   pub program : Program
   pub accepted : Runs set set.job bytes program
-  pub run : IsRun program ready.order.items ready.ending ready.output.items ready.copies
+  pub run : IsRun program ready.order.items ready.ending ready.output ready.copies
   pub main_alone : All (λ t. t ≡ 0) ready.order.items
   pub line : ready.line.items ≡ line_of (ended_by ready.ending)
   pub tail : ready.tail.items ≡ tail_of set ready.order.items (commands program ready.order.items) ready.copies
@@ -37,7 +37,7 @@ IsNotBuilt d note = (d ≡ not_built) × (note ≡ line_of (ended.Refused d))
 
 -- this is the run of these sums
 pub record IsRunOfSums (set : Settings) (pieces : List Piece) (ready : Ready) : Type 0 where
-  pub run : IsRun (sums_program set.turns pieces) ready.order.items ready.ending ready.output.items ready.copies
+  pub run : IsRun (sums_program set.turns pieces) ready.order.items ready.ending ready.output ready.copies
   pub main_alone : All (λ t. t ≡ 0) ready.order.items
   pub line : ready.line.items ≡ line_of (ended_by ready.ending)
   pub tail : ready.tail.items ≡ tail_of set ready.order.items (commands (sums_program set.turns pieces) ready.order.items) ready.copies

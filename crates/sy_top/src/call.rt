@@ -7,14 +7,16 @@ ghost use Rattle.sy_top.specs.Notes.{line_of};
 ghost use Rattle.sy_top.specs.declared.notes.Ended.TheVariants as ended;
 
 use crate::form::{Piece, read};
+use crate::host::{NoCommands, Sums};
 use crate::jobs::{Job, Settings};
 use crate::notes::Ended;
 use crate::runs::{Note, Run};
-use crate::sums::{End, run};
 use crate::trace::tail;
 use std::alloc::{AllocError, Global};
+use sy_access::Bytes;
 use sy_io::{ReadStop, Sink, write_all};
 use sy_note::{Code, Diagnostic, Spot};
+use sy_plain::{End, run_plain};
 use sy_work::Ending;
 
 /// A run that is over, before its output is written.
@@ -22,7 +24,7 @@ use sy_work::Ending;
 pub struct Ready {
     pub ending: Ending,
     pub order: Vec<u32>,
-    pub output: Vec<u8>,
+    pub output: Bytes,
     pub copies: u64,
     /// The line of its ending.
     pub line: Vec<u8>,
@@ -51,22 +53,24 @@ fn refuse(alloc: Global) -> Result<(Diagnostic, Vec<u8>), AllocError>
     Ok((NOT_BUILT, note))
 }
 
-/// The run of these sums, which submit no command and so copy nothing.
+/// The run of these sums, which submit no command.
 fn run_sums(alloc: Global, pieces: &[Piece], set: &Settings) -> Result<Ready, AllocError>
     ensures { IfOk result (IsRunOfSums set.now pieces.now) }
 {
+    let main = Sums::new(alloc, pieces, set.turns);
     let End {
         ending,
         order,
         output,
-    } = run(alloc, pieces, set.turns)?;
+        copies,
+    } = run_plain(alloc, main, &NoCommands { alloc })?;
     let line = Ended::by(ending).line(alloc)?;
-    let tail = tail(alloc, set, order.as_slice(), 0, 0)?;
+    let tail = tail(alloc, set, order.as_slice(), 0, copies)?;
     Ok(Ready {
         ending,
         order,
         output,
-        copies: 0,
+        copies,
         line,
         tail,
     })

@@ -41,7 +41,7 @@ const SOURCE_LIMIT: usize = 1_048_576;
 
 /// Writes the output of a run, and its note.
 fn write_run<O: Sink, E: Sink>(alloc: Global, ready: Ready, out: &mut O, err: &mut E) -> Run
-    ensures written { Writes (O.taken out.old) (O.taken out.new) (O.faults out.old) (O.faults out.new) ready.ending ready.output.items result.ended }
+    ensures written { Writes (O.taken out.old) (O.taken out.new) (O.faults out.old) (O.faults out.new) ready.ending ready.output result.ended }
     ensures order { result.order.items ≡ ready.order.items }
     ensures copies { result.copies ≡ ready.copies }
     ensures note { ready.line.items ≡ line_of (ended_by ready.ending)
@@ -55,7 +55,7 @@ fn write_run<O: Sink, E: Sink>(alloc: Global, ready: Ready, out: &mut O, err: &m
         line,
         tail,
     } = ready;
-    match write_all(out, output.as_slice()) {
+    match write_all(out, output.items()) {
         Ok(()) => {
             let note = tell_both(err, line.as_slice(), tail.as_slice());
             Run {

@@ -1,6 +1,5 @@
 use Rattle.std.proofs.Common.{refl, arith}
 use Rattle.sy_top.specs.Sums.{after_sums}
-use Rattle.sy_top.proofs.Alone.{main_alone}
 use Rattle.sy_top.proofs.host.Sums.new.Goals as goal
 
 pub returns-clause-begins : goal.returns-clause-begins
