@@ -1,0 +1,5 @@
+use Rattle.sy_answers.proofs.Runs.{step_fits}
+use Rattle.sy_answers.proofs.laws.answers_fit.Goals as goal
+
+pub returns : goal.returns
+returns c = step_fits

@@ -1,0 +1,5 @@
+use Rattle.sy_answers.proofs.Runs.{counted}
+use Rattle.sy_answers.proofs.laws.threads_are_counted.Goals as goal
+
+pub returns : goal.returns
+returns c = counted

@@ -1,0 +1,8 @@
+use crate::laws::{answers_fit, due_answers_reach_their_threads, threads_are_counted};
+
+#[test]
+fn laws_are_functions() {
+    threads_are_counted();
+    answers_fit();
+    due_answers_reach_their_threads();
+}
