@@ -1,6 +1,8 @@
 -- Waits that are answered one thread after another are answered all at once.
 use Rattle.std.proofs.Common.{◌≡◌, ℕ, zero, suc, ◌+◌, ◌<◌, ◌≤◌, List, [], ◌∷◌, ◌++◌, length, take, drop, map, Bool, true, false, Option, Some, None, refl, arith, ap, ◌∙◌, sym, subst, get_or}
-use Rattle.std.specs.Prelude.{slice_get, option_map, if◌then◌else◌}
+use Rattle.std.specs.Prelude.{slice_get, slice_set, option_map, if◌then◌else◌}
+use Rattle.std.proofs.lemmas.Option.{slice_get-get_or}
+use Rattle.sy_onecopy.specs.Settle.{await}
 use Rattle.sy_work.specs.declared.asks.Answer.TheVariants.{Done}
 use Rattle.sy_onecopy.specs.declared.Waits.{Waits}
 use Rattle.sy_onecopy.specs.declared.Waits.TheVariants.{Ready, Due, OnEntry, OnNode, OnQueue, OnThread, Never, Finished}
@@ -8,7 +10,7 @@ use Rattle.sy_onecopy.specs.Each.{changed_at}
 use Rattle.sy_onecopy.specs.State.{Board}
 use Rattle.sy_onecopy.specs.Step.{given, is_due, has_finished, give_all}
 use Rattle.sy_board.specs.Turns.{give_one, give_upto}
-use Rattle.sy_board.proofs.Each.{length-changed_at}
+use Rattle.sy_board.proofs.Each.{length-changed_at, changed_at-set, changed_at-past, changed_at-same}
 
 -- ---- the first k members of a list changed
 
@@ -84,3 +86,20 @@ give_upto-all b = upto-first b (length b.waits) ∙ ap (λ ws. record b { waits 
 pub length-give_upto : (b : Board) (k : ℕ) → length (give_upto b k).waits ≡ length b.waits
 length-give_upto b zero = refl
 length-give_upto b (suc k) = length-changed_at (given (give_upto b k)) k (give_upto b k).waits ∙ length-give_upto b k
+
+-- ---- one wait
+
+pub give_due : (b : Board) (k : ℕ) → k < length b.waits → ((w : Waits) → slice_get b.waits k ≡ Some w → true ≡ is_due b w) → await b k (Due Done) ≡ give_one k b
+give_due b k lt due =
+    let w = get_or b.waits k Ready in
+    let e : given b w ≡ Due Done = ap (λ v. if v then Due Done else w) (sym (due w (slice_get-get_or b.waits k Ready lt))) in
+    ap (λ ws. record b { waits = ws }) (ap (slice_set b.waits k) (sym e) ∙ changed_at-set (given b) k b.waits Ready lt)
+
+pub give_not : (b : Board) (k : ℕ) → k < length b.waits → ((w : Waits) → slice_get b.waits k ≡ Some w → false ≡ is_due b w) → b ≡ give_one k b
+give_not b k lt due =
+    let w = get_or b.waits k Ready in
+    let e : given b w ≡ w = ap (λ v. if v then Due Done else w) (sym (due w (slice_get-get_or b.waits k Ready lt))) in
+    ap (λ ws. record b { waits = ws }) (changed_at-same (given b) k b.waits Ready e)
+
+pub give_past : (b : Board) (k : ℕ) → length b.waits ≤ k → b ≡ give_one k b
+give_past b k le = ap (λ ws. record b { waits = ws }) (changed_at-past (given b) k b.waits le)

@@ -2,7 +2,9 @@
 use Rattle.std.proofs.Common.{◌≡◌, ℕ, ◌+◌, ◌*◌, ◌<◌, ◌≤◌, ◌^◌, List, length, All, Bool, true, false, refl, arith}
 use Rattle.std.specs.Prelude.{if◌then◌else◌, sum_by}
 use Rattle.std.proofs.lemmas.List.Sums.{sum_by-le}
+use Rattle.std.proofs.Math.Nat.{mul-le-mul_right}
 use Rattle.sy_onecopy.specs.declared.Buffer.{Buffer}
+use Rattle.sy_onecopy.specs.declared.Entry.{Entry}
 use Rattle.sy_onecopy.specs.State.{Board}
 use Rattle.sy_onecopy.specs.Copies.{copies}
 use Rattle.sy_onecopy.specs.Step.{live_elements, begun}
@@ -39,9 +41,12 @@ room b s = record {
 pub begun_room : (b c : Board) (t : ℕ) → IsSound b → b.steps < 2 ^ 24 → c ≡ begun b t → HasRoom c
 begun_room b c t s lt e = rw e (room (begun b t) (begun-sound b t s lt))
 
+product_fits : (m n k : ℕ) → k ≤ m * n → m ≤ 16777216 → n ≤ 16777216 → k < 2 ^ 64
+product_fits m n k le a b =
+    let p : m * n ≤ 16777216 * n = mul-le-mul_right n a in
+    omega (arith, le, p, b)
+
 -- the count of copies fits
-pub copies_fit : (b : Board) → IsSound b → copies b.entries b.buffers < 2 ^ 64
-copies_fit b s = product_fits (length b.buffers) (length b.entries) _ (copies_few b.entries b.buffers) (omega (arith, s.counts.buffers, s.counts.steps)) (omega (arith, s.counts.entries, s.counts.steps))
-  where
-    product_fits : (m n k : ℕ) → k ≤ m * n → m ≤ 2 ^ 24 → n ≤ 2 ^ 24 → k < 2 ^ 64
-    product_fits m n k le a b = let p : m * n ≤ 16777216 * 16777216 = grind arith in omega (arith, le, p)
+pub copies_fit : (b : Board) (es : List Entry) (bs : List Buffer) → IsSound b → es ≡ b.entries → bs ≡ b.buffers → copies es bs < 2 ^ 64
+copies_fit b es bs s ee eb =
+    rw (ee, eb) (product_fits (length b.buffers) (length b.entries) (copies b.entries b.buffers) (copies_few b.entries b.buffers) (omega (arith, s.counts.buffers, s.counts.steps)) (omega (arith, s.counts.entries, s.counts.steps)))

@@ -25,7 +25,7 @@ use std::mem;
 use sy_access::{Bytes, Log, Mode, Need, Needs, Numbers, Values};
 use sy_onecopy::{Buffer, Entry, Origin, Queue, Stage, Waits, Work};
 use sy_range::{Range, count};
-use sy_work::{Answer, Ask, Ending, Errc, Inputs, NewBuffer, NewQueue, Outcome, Runner, Submission, Why};
+use sy_work::{Answer, Ask, Command, Ending, Errc, Inputs, NewBuffer, NewQueue, Outcome, Runner, Submission, Why};
 
 /// What a step reads and changes beside the answers of the threads.
 #[derive(Drop)]
@@ -67,12 +67,18 @@ impl OneCopy {
         })
     }
 
+    fn await_at(&mut self, t: usize, w: Waits)
+        ensures { self.new ≡ await self.old t w }
+    {
+        if t < self.waits.len() {
+            self.waits[t] = w;
+        }
+    }
+
     fn await_on(&mut self, t: u32, w: Waits)
         ensures { self.new ≡ await self.old t w }
     {
-        if (t as usize) < self.waits.len() {
-            self.waits[t as usize] = w;
-        }
+        self.await_at(t as usize, w);
     }
 
     fn reply(&mut self, t: u32, a: Answer)
@@ -588,8 +594,11 @@ impl OneCopy {
     fn give(&mut self, k: usize)
         ensures { self.new ≡ give_one k self.old }
     {
-        if k < self.waits.len() && self.is_due(k) {
-            self.waits[k] = Waits::Due(Answer::Done);
+        if k >= self.waits.len() {
+            return;
+        }
+        if self.is_due(k) {
+            self.await_at(k, Waits::Due(Answer::Done));
         }
     }
 
@@ -597,7 +606,7 @@ impl OneCopy {
     fn give_all(&mut self)
         ensures { self.new ≡ give_all self.old }
     {
-        for k in 0..self.waits.len() {
+        for k in 0..self.threads() {
             self.give(k);
         }
     }
@@ -637,7 +646,7 @@ impl OneCopy {
         ensures answer { result ≡ due_of (slice_get self.old.waits k) }
         ensures heard { self.new ≡ hear_one k self.old }
     {
-        if k < self.waits.len() { take_due(&mut self.waits[k]) } else { None }
+        take_at(&mut self.waits, k)
     }
 
     /// How many threads there are.
@@ -667,6 +676,17 @@ fn take_due(wait: &mut Waits) -> Option<Answer>
             None
         }
     }
+}
+
+/// The answer that is due to thread k, after which nothing is.
+fn take_at(waits: &mut Vec<Waits>, k: usize) -> Option<Answer>
+    ensures answer { result ≡ due_of (slice_get waits.old.items k) }
+    ensures heard { waits.new.items ≡ changed_at once_heard k waits.old.items }
+{
+    if k >= waits.len() {
+        return None;
+    }
+    take_due(&mut waits[k])
 }
 
 fn set_stage(entries: &mut Vec<Entry>, k: usize, s: Stage)
@@ -714,12 +734,18 @@ fn new_buffer(alloc: Global, m: &NewBuffer, elements: usize) -> Result<Buffer, A
     }
 }
 
+fn copy_of(command: &Command) -> Result<Command, AllocError>
+    ensures { IfOk result (λ c. c ≡ command.now) }
+{
+    command.clone()
+}
+
 /// The entry of node n, of that submission to that queue.
 fn node_entry(alloc: Global, n: u32, s: &Submission, x: Queue) -> Result<Entry, AllocError>
     ensures { IfOk result (λ e. e ≡ node_entry n s.now x) }
 {
     Ok(Entry {
-        work: Work::Node(n, s.queue, s.command.clone()?),
+        work: Work::Node(n, s.queue, copy_of(&s.command)?),
         needs: s.needs.copy(alloc)?,
         after: s.after.copy(alloc)?,
         in_order: if x.in_order { Some(s.queue) } else { None },
@@ -733,7 +759,10 @@ fn ends_within(base: u32, range: &Range, elements: usize) -> bool
     ensures { result ≡ nat_le (base + product range.now) elements }
 {
     match count(range) {
-        Some(n) => (base as u64).saturating_add(n) <= elements as u64,
+        Some(n) => match n.checked_add(base as u64) {
+            Some(end) => end <= elements as u64,
+            None => false,
+        },
         None => false,
     }
 }

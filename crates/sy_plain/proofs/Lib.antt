@@ -1,0 +1,4 @@
+pub mod Lists
+pub mod Hearing
+pub mod Steps
+pub mod Endings
