@@ -22,11 +22,6 @@ each_from-step f k xs i at x y out new lt ex ea ey eo en =
     en ∙ ap (λ l. l ++ y ∷ []) eo ∙ ap (λ z. each_from f k (take i xs) ++ z ∷ []) (ey ∙ ap (λ n. f n x) ea ∙ ap (f (k + i)) ex)
     ∙ sym (each_from-take f k xs i x lt)
 
-pub length-changed_at : {A : Type 0} (f : A → A) (k : ℕ) (xs : List A) → length (changed_at f k xs) ≡ length xs
-length-changed_at f k [] = refl
-length-changed_at f zero (x ∷ xs) = refl
-length-changed_at f (suc k) (x ∷ xs) = ap suc (length-changed_at f k xs)
-
 pub changed_at-set : {A : Type 0} (f : A → A) (k : ℕ) (xs : List A) (d : A) → k < length xs → slice_set xs k (f (get_or xs k d)) ≡ changed_at f k xs
 changed_at-set f k [] d lt = absurd (omega (arith, lt))
 changed_at-set f zero (x ∷ xs) d lt = refl

@@ -1,5 +1,5 @@
 -- What the effect of an entry is, by its work.
-use Rattle.std.proofs.Common.{◌≡◌, ℕ, List, Some, refl, ap, ◌∙◌, sym, subst}
+use Rattle.std.proofs.Common.{◌≡◌, ℕ, List, Some, ap, ◌∙◌, sym, subst}
 use Rattle.std.specs.Prelude.{slice_get}
 use Rattle.std.proofs.lemmas.Option.{same_Some}
 use Rattle.sy_access.specs.declared.access.Need.{Need}
@@ -9,7 +9,6 @@ use Rattle.sy_work.specs.declared.commands.Command.{Command}
 use Rattle.sy_work.specs.declared.commands.Outcome.{Outcome}
 use Rattle.sy_work.specs.declared.asks.Answer.TheVariants.{Contents}
 use Rattle.sy_onecopy.specs.declared.Entry.{Entry}
-use Rattle.sy_onecopy.specs.declared.Work.{Work}
 use Rattle.sy_onecopy.specs.declared.Work.TheVariants.{Node, Access, End}
 use Rattle.sy_onecopy.specs.declared.Stage.TheVariants.{Granted, Done}
 use Rattle.sy_onecopy.specs.State.{Board}
@@ -29,13 +28,13 @@ pub effect_node : (out : OutcomeOf) (b d : Board) (k n q : ℕ) (x : Entry) (c :
 unfolding effect
 effect_node out b d k n q x c given needs o here is eg eo en ed e at =
     any_entry out b d k x e here at
-      (ed ∙ ap (λ l. took b k l o) en ∙ ap (took b k x.needs) (eo ∙ ap (out c) eg) ∙ ap (effect out b k x) (sym is))
+    (ed ∙ ap (λ l. took b k l o) en ∙ ap (took b k x.needs) (eo ∙ ap (out c) eg) ∙ ap (effect out b k x) (sym is))
 
 pub effect_access : (out : OutcomeOf) (b d : Board) (k t i : ℕ) (x : Entry) (given : List Input) → slice_get b.entries k ≡ Some x → x.work ≡ Access t i → given ≡ inputs b.buffers x.needs → d ≡ reply (to_stage b k Granted) t (Contents (first_of given)) → (e : Entry) → slice_get b.entries k ≡ Some e → d ≡ effect out b k e e.work
 unfolding effect
 effect_access out b d k t i x given here is eg ed e at =
     any_entry out b d k x e here at
-      (ed ∙ ap (λ l. reply (to_stage b k Granted) t (Contents (first_of l))) eg ∙ ap (effect out b k x) (sym is))
+    (ed ∙ ap (λ l. reply (to_stage b k Granted) t (Contents (first_of l))) eg ∙ ap (effect out b k x) (sym is))
 
 pub effect_end : (out : OutcomeOf) (b d : Board) (k t r : ℕ) (x : Entry) → slice_get b.entries k ≡ Some x → x.work ≡ End t r → d ≡ reply (to_stage b k Done) t (Contents (values_at b.buffers r)) → (e : Entry) → slice_get b.entries k ≡ Some e → d ≡ effect out b k e e.work
 unfolding effect

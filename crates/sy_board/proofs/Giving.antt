@@ -1,6 +1,6 @@
 -- Waits that are answered one thread after another are answered all at once.
-use Rattle.std.proofs.Common.{◌≡◌, ℕ, zero, suc, ◌+◌, ◌<◌, ◌≤◌, List, [], ◌∷◌, ◌++◌, length, take, drop, map, Bool, true, false, Option, Some, None, refl, arith, ap, ◌∙◌, sym, subst, get_or}
-use Rattle.std.specs.Prelude.{slice_get, slice_set, option_map, if◌then◌else◌}
+use Rattle.std.proofs.Common.{◌≡◌, ℕ, zero, suc, ◌<◌, ◌≤◌, List, [], ◌∷◌, length, map, Bool, true, false, Some, refl, ap, ◌∙◌, sym, get_or}
+use Rattle.std.specs.Prelude.{slice_get, slice_set, if◌then◌else◌}
 use Rattle.std.proofs.lemmas.Option.{slice_get-get_or}
 use Rattle.sy_onecopy.specs.Settle.{await}
 use Rattle.sy_work.specs.declared.asks.Answer.TheVariants.{Done}
@@ -10,7 +10,7 @@ use Rattle.sy_onecopy.specs.Each.{changed_at}
 use Rattle.sy_onecopy.specs.State.{Board}
 use Rattle.sy_onecopy.specs.Step.{given, is_due, has_finished, give_all}
 use Rattle.sy_board.specs.Turns.{give_one, give_upto}
-use Rattle.sy_board.proofs.Each.{length-changed_at, changed_at-set, changed_at-past, changed_at-same}
+use Rattle.sy_board.proofs.Each.{changed_at-set, changed_at-past, changed_at-same}
 
 -- ---- the first k members of a list changed
 
@@ -76,16 +76,12 @@ upto-first b zero = refl
 upto-first b (suc k) =
     ap (give_one k) (upto-first b k)
     ∙ ap (λ ws. record b { waits = ws })
-      (changed_at-eq (given (first_given b k)) (given b) k (first_changed (given b) k b.waits) (λ w. ap (λ v. if v then Due Done else w) (due_kept b k w))
-       ∙ first_changed-more (given b) k b.waits)
+    (changed_at-eq (given (first_given b k)) (given b) k (first_changed (given b) k b.waits) (λ w. ap (λ v. if v then Due Done else w) (due_kept b k w))
+    ∙ first_changed-more (given b) k b.waits)
 
 pub give_upto-all : (b : Board) → give_upto b (length b.waits) ≡ give_all b
 unfolding give_all
 give_upto-all b = upto-first b (length b.waits) ∙ ap (λ ws. record b { waits = ws }) (first_changed-all (given b) b.waits)
-
-pub length-give_upto : (b : Board) (k : ℕ) → length (give_upto b k).waits ≡ length b.waits
-length-give_upto b zero = refl
-length-give_upto b (suc k) = length-changed_at (given (give_upto b k)) k (give_upto b k).waits ∙ length-give_upto b k
 
 -- ---- one wait
 

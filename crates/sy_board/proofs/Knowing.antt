@@ -1,5 +1,5 @@
 -- The commands of a board's nodes are known if those of all submissions are.
-use Rattle.std.proofs.Common.{◌≡◌, ℕ, zero, suc, ◌+◌, ◌<◌, ◌≤◌, ℤ, List, [], ◌∷◌, ◌++◌, length, Bool, true, false, Option, Some, None, refl, arith, ap, ◌∙◌, sym, subst, ◌⊎◌, inl, inr}
+use Rattle.std.proofs.Common.{◌≡◌, ℕ, zero, suc, ◌+◌, ℤ, List, [], ◌∷◌, ◌++◌, length, Bool, true, false, Option, Some, None, refl, ap, ◌∙◌, subst, ◌⊎◌, inl, inr}
 use Rattle.std.specs.Prelude.{slice_get, if◌then◌else◌, ◌^◌, nat_le, nat_lt, ◌&&◌}
 use Rattle.sy_access.specs.declared.access.Need.{Need}
 use Rattle.sy_access.specs.Needs.{writes}
@@ -28,7 +28,7 @@ use Rattle.sy_onecopy.specs.Each.{changed_at}
 use Rattle.sy_onecopy.specs.State.{Board}
 use Rattle.sy_onecopy.specs.Before.{is_free}
 use Rattle.sy_onecopy.specs.Outcome.{inputs}
-use Rattle.sy_onecopy.specs.Settle.{with_stage, to_stage, took, effect, settle_entry, settle_one, settle_upto, settle}
+use Rattle.sy_onecopy.specs.Settle.{with_stage, took, effect, settle_entry, settle_upto}
 use Rattle.sy_onecopy.specs.Step.{printed, is_root, count_of, is_root_need, live_elements, has_count, made_buffer, made_part, end_root, end_buffer, opened_host, put_back, closed, close_entry, close_at, close_found, access_from, made_context, made_queue, holds_together, node_entry, submitted, wait_if, error_on, thrown, throw_queue, spawned, apply, give_all, begun, turn}
 use Rattle.sy_board.specs.Known.{AllKnown, IsKnown}
 

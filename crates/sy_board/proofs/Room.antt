@@ -1,5 +1,5 @@
 -- The numbers of a sound board fit their types.
-use Rattle.std.proofs.Common.{◌≡◌, ℕ, ◌+◌, ◌*◌, ◌<◌, ◌≤◌, ◌^◌, List, length, All, Bool, true, false, refl, arith}
+use Rattle.std.proofs.Common.{◌≡◌, ℕ, ◌*◌, ◌<◌, ◌≤◌, ◌^◌, List, length, Bool, true, false, arith}
 use Rattle.std.specs.Prelude.{if◌then◌else◌, sum_by}
 use Rattle.std.proofs.lemmas.List.Sums.{sum_by-le}
 use Rattle.std.proofs.Math.Nat.{mul-le-mul_right}
@@ -22,7 +22,7 @@ pub live_fits : (buffers : List Buffer) → AreNumbered buffers → live_element
 unfolding live_elements
 live_fits buffers n =
     let le : sum_by (λ (x : Buffer). if x.ended then 0 else length x.values) buffers ≤ length buffers * 4194304 =
-          sum_by-le (λ (x : Buffer). if x.ended then 0 else length x.values) 4194304 buffers (λ k d lt. live_one _ _ (n.small k d lt)) in
+    sum_by-le (λ (x : Buffer). if x.ended then 0 else length x.values) 4194304 buffers (λ k d lt. live_one _ _ (n.small k d lt)) in
     omega (arith, le, n.few)
 
 pub numbered : (b : Board) → IsSound b → AreNumbered b.buffers

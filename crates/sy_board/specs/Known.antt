@@ -5,7 +5,6 @@ use Rattle.sy_work.specs.declared.asks.Ask.TheVariants.{Submit}
 use Rattle.sy_work.specs.declared.asks.Submission.{Submission}
 use Rattle.sy_work.specs.declared.commands.Command.{Command}
 use Rattle.sy_onecopy.specs.declared.Entry.{Entry}
-use Rattle.sy_onecopy.specs.declared.Work.{Work}
 use Rattle.sy_onecopy.specs.declared.Work.TheVariants.{Node}
 
 -- the command of each node is known

@@ -16,7 +16,9 @@ ghost use Rattle.sy_board.specs.Sizes.{HasRoom, AreNumbered};
 ghost use Rattle.sy_board.specs.Turns.{give_one, due_of, hear_one};
 
 use crate::cells::{buffers_after, buffers_put, inputs, values_at};
-use crate::needs::{are_below, are_root_needs, count_of, fitting, has_count, has_needs, is_root, is_root_need};
+use crate::needs::{
+    are_below, are_root_needs, count_of, fitting, has_count, has_needs, is_root, is_root_need,
+};
 use crate::order::is_free;
 use crate::waits::{access_at, accesses, ending_by, error_on, has_finished, node_done, queue_done};
 use std::alloc::{AllocError, Global};
@@ -25,7 +27,10 @@ use std::mem;
 use sy_access::{Bytes, Log, Mode, Need, Needs, Numbers, Values};
 use sy_onecopy::{Buffer, Entry, Origin, Queue, Stage, Waits, Work};
 use sy_range::{Range, count};
-use sy_work::{Answer, Ask, Command, Ending, Errc, Inputs, NewBuffer, NewQueue, Outcome, Runner, Submission, Why};
+use sy_work::{
+    Answer, Ask, Command, Ending, Errc, Inputs, NewBuffer, NewQueue, Outcome, Runner, Submission,
+    Why,
+};
 
 /// What a step reads and changes beside the answers of the threads.
 #[derive(Drop)]
@@ -135,12 +140,7 @@ impl OneCopy {
 
     /// The entry at k takes effect.
     #[tactic(auto, unfolding(sy_onecopy::specs::Settle::effect))]
-    fn effect<R: Runner>(
-        &mut self,
-        alloc: Global,
-        k: usize,
-        runner: &R,
-    ) -> Result<(), AllocError>
+    fn effect<R: Runner>(&mut self, alloc: Global, k: usize, runner: &R) -> Result<(), AllocError>
         requires here { k < length self.old.entries }
         requires sound { IsSound self.old }
         requires known { AllKnown (R.knows runner.now) self.old.entries }

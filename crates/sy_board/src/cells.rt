@@ -58,7 +58,11 @@ fn run_of(values: &[i128], from: u32, to: u32) -> &[i128]
     }
     let rest = &values[from..];
     let count = to - from;
-    if rest.len() <= count { rest } else { &rest[..count] }
+    if rest.len() <= count {
+        rest
+    } else {
+        &rest[..count]
+    }
 }
 
 /// The numbers of one need, as the command starts.

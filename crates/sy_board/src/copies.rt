@@ -29,9 +29,7 @@ fn names(e: &Entry, r: u32) -> bool
 fn one_has_all(needs: &[Need], r: u32, count: usize) -> bool
     ensures { result ≡ list_any (λ n. n.buffer == r && (n.from == 0 && nat_le count n.to)) needs.now }
 {
-    needs
-        .iter()
-        .any(|n| n.buffer == r && (n.from == 0 && count <= n.to as usize))
+    needs.iter().any(|n| n.buffer == r && (n.from == 0 && count <= n.to as usize))
 }
 
 /// Whether each need on the buffer has no_init.

@@ -45,8 +45,7 @@ pub fn count_of(buffers: &[Buffer], r: u32) -> usize
 pub fn is_root_need(buffers: &[Buffer], n: &Need) -> bool
     ensures { result ≡ is_root_need buffers.now n.now }
 {
-    is_root(buffers, n.buffer)
-        && (n.from <= n.to && n.to as usize <= count_of(buffers, n.buffer))
+    is_root(buffers, n.buffer) && (n.from <= n.to && n.to as usize <= count_of(buffers, n.buffer))
 }
 
 /// Whether the numbers that a buffer is over, if there are any, are as many as its range has.
@@ -62,7 +61,11 @@ pub fn has_count(range: &Range, init: &Option<Values>) -> bool
 fn live_count(x: &Buffer) -> u64
     ensures { result ≡ (if x.now.ended then 0 else length x.now.values) }
 {
-    if x.ended { 0 } else { x.values.items().len() as u64 }
+    if x.ended {
+        0
+    } else {
+        x.values.items().len() as u64
+    }
 }
 
 /// The elements of the buffers that have not ended.

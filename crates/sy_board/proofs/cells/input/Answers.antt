@@ -1,4 +1,4 @@
-use Rattle.std.proofs.Common.{◌≡◌, ◌+◌, arith, pos}
+use Rattle.std.proofs.Common.{arith, pos}
 use Rattle.std.proofs.lemmas.Int.{to_z-of_z}
 use Rattle.sy_onecopy.specs.Outcome.{at_start}
 use Rattle.sy_board.proofs.Each.{each_from-take}
