@@ -18,30 +18,6 @@ use Rattle.sy_plain.specs.Hosts.{Seats}
 use Rattle.sy_plain.specs.Runs.{StandsAt, Hold, Reached, least}
 use Rattle.sy_plain.proofs.Lists.{some_is}
 
--- ---- the loop that looks for the least thread
-
-drop_at : {A : Type 0} (xs : List A) (i : ℕ) (x : A) → i < length xs → x ≡ get_or xs i x → drop i xs ≡ x ∷ drop (i + 1) xs
-drop_at xs i x lt e = drop_more xs i x lt ∙ ap (λ y. y ∷ drop (i + 1) xs) (sym e)
-
-drop_end : {A : Type 0} (xs : List A) (i : ℕ) → length xs ≤ i → drop i xs ≡ []
-drop_end [] zero le = refl
-drop_end [] (suc i) le = refl
-drop_end (x ∷ xs) zero le = absurd (omega (arith, le))
-drop_end (x ∷ xs) (suc i) le = drop_end xs i (omega (arith, le))
-
-pub least_more : (b : Board) (os : List (Option Ask)) (i : ℕ) (o : Option Ask) → i < length os → o ≡ get_or os i o → may_go b i o ≡ false → least b i (drop i os) ≡ least b 0 os → least b (i + 1) (drop (i + 1) os) ≡ least b 0 os
-least_more b os i o lt e no so =
-    let n : i + 1 ≡ suc i = omega arith in
-    ap (λ m. least b m (drop (i + 1) os)) n
-    ∙ sym (ap (least b i) (drop_at os i o lt e) ∙ ap (λ v. if v then Some i else least b (suc i) (drop (i + 1) os)) no) ∙ so
-
-pub least_here : (b : Board) (os : List (Option Ask)) (i : ℕ) (o : Option Ask) → i < length os → o ≡ get_or os i o → may_go b i o ≡ true → least b i (drop i os) ≡ least b 0 os → Some i ≡ least b 0 os
-least_here b os i o lt e yes so =
-    sym (ap (least b i) (drop_at os i o lt e) ∙ ap (λ v. if v then Some i else least b (suc i) (drop (i + 1) os)) yes) ∙ so
-
-pub least_none : (b : Board) (os : List (Option Ask)) (i : ℕ) → length os ≤ i → least b i (drop i os) ≡ least b 0 os → None ≡ least b 0 os
-least_none b os i le so = sym (ap (least b i) (drop_end os i le)) ∙ so
-
 -- ---- the least thread of a state
 
 false_true : {A : Type 0} → false ≡ true → A

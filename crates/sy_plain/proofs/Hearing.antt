@@ -1,13 +1,18 @@
 -- Answers that reach their hosts one after another.
-use Rattle.std.proofs.Common.{◌≡◌, ◌≢◌, ℕ, zero, suc, ◌+◌, ◌<◌, ◌≤◌, ℤ, List, [], ◌∷◌, ◌++◌, length, Option, Some, None, Bool, true, false, refl, sym, ap, ◌∙◌, subst, arith, ◌⊎◌, inl, inr}
+use Rattle.std.proofs.Common.{◌≡◌, ◌≢◌, ℕ, zero, suc, ◌+◌, ◌<◌, ◌≤◌, ℤ, List, [], ◌∷◌, ◌++◌, length, map, Option, Some, None, Bool, true, false, refl, sym, ap, ◌∙◌, subst, arith, ◌⊎◌, inl, inr}
 use Rattle.std.specs.Prelude.{slice_get, slice_set}
 use Rattle.std.proofs.lemmas.Bool.{cases_eq}
-use Rattle.std.proofs.lemmas.Option.{slice_get_within}
+use Rattle.std.proofs.lemmas.Option.{slice_get_within, slice_get_past}
+use Rattle.sy_onecopy.specs.declared.Waits.{Waits}
+use Rattle.sy_onecopy.specs.declared.Waits.TheVariants.{Ready, Due, OnEntry, OnNode, OnQueue, OnThread, Never, Finished}
+use Rattle.sy_onecopy.specs.State.{Board}
+use Rattle.sy_onecopy.specs.Step.{once_heard}
+use Rattle.sy_board.specs.Turns.{due_of, hear_one}
 use Rattle.sy_work.specs.Programs.{NextAsk}
 use Rattle.sy_work.specs.declared.asks.Ask.{Ask}
 use Rattle.sy_work.specs.declared.asks.Answer.{Answer}
-use Rattle.sy_board.proofs.Giving.{first_changed}
-use Rattle.sy_plain.specs.Hosts.{Heard, CanHear, HeardAt, Told, AfterDue, ChildOf, Seats, Born, Alone}
+use Rattle.sy_board.proofs.Giving.{first_changed, first_changed-more, first_changed-all}
+use Rattle.sy_plain.specs.Hosts.{Heard, CanHear, HeardAt, HearsAt, Told, AfterDue, ChildOf, Seats, Born, Alone}
 use Rattle.sy_plain.proofs.Lists.{set_same, set_other, length-set}
 
 -- the members from k on are as they were
@@ -16,6 +21,9 @@ first_changed-rest f zero xs u le = refl
 first_changed-rest f (suc k) [] u le = refl
 first_changed-rest f (suc k) (x ∷ xs) zero le = absurd (omega (arith, le))
 first_changed-rest f (suc k) (x ∷ xs) (suc u) le = first_changed-rest f k xs u (omega (arith, le))
+
+below_or_not : (a b : ℕ) → (a < b) ⊎ (b ≤ a)
+below_or_not a b = grind arith
 
 module _ {H : Type 0} (pending : H → Option Ask) (stands : H → NextAsk → ℕ → List ℤ → List Answer → Type 0) where
   -- hosts and asks after the answers that are due to the first k threads
@@ -91,3 +99,48 @@ module _ {H : Type 0} (pending : H → Option Ask) (stands : H → NextAsk → �
   -- the host that is to hear an answer is still as it was
   pub can_still : (due : ℕ → Option Answer) (hosts now : List H) (asks now_asks : List (Option Ask)) (k : ℕ) (a : Answer) → Hearing due hosts asks k now now_asks → CanHear pending hosts k a → CanHear pending now k a
   can_still due hosts now asks now_asks k a h can = record { host = can.host; here = h.same_hosts k (omega arith) ∙ can.here; ask = can.ask; open_ask = can.open_ask; fits = can.fits }
+
+  pub hearing_step : (due : ℕ → Option Answer) (hosts now new : List H) (asks now_asks new_asks : List (Option Ask)) (k : ℕ) (o : Option Answer) → k < length asks → due k ≡ o → Hearing due hosts asks k now now_asks → HearsAt pending stands o now now_asks k new new_asks → Hearing due hosts asks (k + 1) new new_asks
+  hearing_step due hosts now new asks now_asks new_asks k (Some a) lt e h at = hearing_more due hosts now new asks now_asks new_asks k a lt e h at
+  hearing_step due hosts now new asks now_asks new_asks k None lt e h at =
+      let P : List H → Type 0 = λ l. Hearing due hosts asks (k + 1) l new_asks in
+      let Q : List (Option Ask) → Type 0 = λ l. Hearing due hosts asks (k + 1) now l in
+      subst P (sym at.0) (subst Q (sym at.1) (hearing_on due hosts now asks now_asks k e h))
+
+-- the answer that is due to the thread is due as before
+pub due_still : (b c : Board) (k : ℕ) → c ≡ record b { waits = first_changed once_heard k b.waits } → due_of (slice_get c.waits k) ≡ due_of (slice_get b.waits k)
+due_still b c k e = ap (λ (x : Board). due_of (slice_get x.waits k)) e ∙ ap due_of (first_changed-rest once_heard k b.waits k (omega arith))
+
+due_was : (w : Option Waits) (a : Answer) → Some a ≡ due_of w → w ≡ Some (Due a)
+due_was None a e = absurd (let z : ⊥ = cc in z)
+due_was (Some Ready) a e = absurd (let z : ⊥ = cc in z)
+due_was (Some (Due x)) a e = let z : a ≡ x = cc in ap (λ y. Some (Due y)) (sym z)
+due_was (Some OnEntry) a e = absurd (let z : ⊥ = cc in z)
+due_was (Some (OnNode n)) a e = absurd (let z : ⊥ = cc in z)
+due_was (Some (OnQueue q n)) a e = absurd (let z : ⊥ = cc in z)
+due_was (Some (OnThread u)) a e = absurd (let z : ⊥ = cc in z)
+due_was (Some Never) a e = absurd (let z : ⊥ = cc in z)
+due_was (Some (Finished v)) a e = absurd (let z : ⊥ = cc in z)
+
+pub due_there : (b c : Board) (k : ℕ) (a : Answer) → c ≡ record b { waits = first_changed once_heard k b.waits } → Some a ≡ due_of (slice_get c.waits k) → slice_get b.waits k ≡ Some (Due a)
+due_there b c k a e h = due_was (slice_get b.waits k) a (h ∙ due_still b c k e)
+
+-- one more thread has heard
+pub heard_more : (b c d : Board) (k : ℕ) → c ≡ record b { waits = first_changed once_heard k b.waits } → d ≡ hear_one k c → d ≡ record b { waits = first_changed once_heard (k + 1) b.waits }
+heard_more b c d k ec ed =
+    let n : k + 1 ≡ suc k = omega arith in
+    ed ∙ ap (hear_one k) ec ∙ ap (λ ws. record b { waits = ws }) (first_changed-more once_heard k b.waits ∙ ap (λ m. first_changed once_heard m b.waits) (sym n))
+
+-- all have heard
+pub heard_all : (b c : Board) (k : ℕ) → k ≡ length b.waits → c ≡ record b { waits = first_changed once_heard k b.waits } → c ≡ record b { waits = map once_heard b.waits }
+heard_all b c k n e = e ∙ ap (λ ws. record b { waits = ws }) (ap (λ m. first_changed once_heard m b.waits) n ∙ first_changed-all once_heard b.waits)
+
+-- a thread that is not there hears nothing
+pub told_past : {H : Type 0} (pending : H → Option Ask) (stands : H → NextAsk → ℕ → List ℤ → List Answer → Type 0) (ws : List Waits) (hosts now : List H) (asks now_asks : List (Option Ask)) (k : ℕ) → length ws ≤ k → Hearing pending stands (λ u. due_of (slice_get ws u)) hosts asks k now now_asks → (u : ℕ) → AfterDue pending stands (due_of (slice_get ws u)) (slice_get hosts u) (slice_get now u) (slice_get asks u) (slice_get now_asks u)
+told_past {H} pending stands ws hosts now asks now_asks k le h u = elim (below_or_not u k) [ inl lt ↦ h.told u lt | inr past ↦ rest past ]
+  where
+    rest : k ≤ u → AfterDue pending stands (due_of (slice_get ws u)) (slice_get hosts u) (slice_get now u) (slice_get asks u) (slice_get now_asks u)
+    rest past =
+        let e : due_of (slice_get ws u) ≡ None = ap due_of (slice_get_past ws u (omega (arith, le, past))) in
+        let P : Option Answer → Type 0 = λ o. AfterDue pending stands o (slice_get hosts u) (slice_get now u) (slice_get asks u) (slice_get now_asks u) in
+        subst P (sym e) (h.same_hosts u past, h.same_asks u past)

@@ -64,7 +64,7 @@ ready_or_due (Some (Finished v)) h = false_true h
 not_ready_due : (w : Option Waits) (a : Answer) → w ≡ Some (Due a) → ready_at w ≡ true → ⊥
 not_ready_due w a e h = false_true (sym (ap ready_at e) ∙ h)
 
-ready_within : (ws : List Waits) (u : ℕ) → ready_at (slice_get ws u) ≡ true → u < length ws
+pub ready_within : (ws : List Waits) (u : ℕ) → ready_at (slice_get ws u) ≡ true → u < length ws
 ready_within [] u h = false_true h
 ready_within (w ∷ ws) zero h = omega arith
 ready_within (w ∷ ws) (suc u) h = omega (arith, ready_within ws u h)
@@ -74,12 +74,13 @@ below_or_not a b = grind arith
 
 -- ---- the thread that a spawn adds
 
-record Spawns (ask : Ask) (n : ℕ) : Type 0 where
-  body : ℕ
-  captures : List ℤ
-  is : ask ≡ Spawn body captures
-  room : n < 64
-  more : count_after ask n ≡ suc n
+-- the ask starts a thread where there are n
+pub record Spawns (ask : Ask) (n : ℕ) : Type 0 where
+  pub body : ℕ
+  pub captures : List ℤ
+  pub is : ask ≡ Spawn body captures
+  pub room : n < 64
+  pub more : count_after ask n ≡ suc n
 
 nat_lt-true : (a b : ℕ) → nat_lt a b ≡ true → a < b
 nat_lt-true a b e = grind arith
@@ -107,7 +108,7 @@ unfolding step
 step-board p s t d e = ap (λ (k : Board). record k { waits = map once_heard k.waits }) e
 
 -- what a thread asks next, where the thread is known
-ask_at : (p : Program) (s : State) (u : ℕ) (x : Thread) → slice_get s.threads u ≡ Some x → next_ask p s u ≡ ask_of p.next x
+pub ask_at : (p : Program) (s : State) (u : ℕ) (x : Thread) → slice_get s.threads u ≡ Some x → next_ask p s u ≡ ask_of p.next x
 ask_at p s u x here = ap (ask_of p.next) (get_or_from_slice_get s.threads u x (new_thread p.main []) here)
 
 module _ {H : Type 0} (pending : H → Option Ask) (stands : H → NextAsk → ℕ → List ℤ → List Answer → Type 0) where

@@ -35,7 +35,12 @@ pub record HeardAt {H : Type 0} (pending : H → Option Ask) (stands : H → Nex
   pub hosts_after : new_hosts ≡ slice_set hosts k new
   pub asks_after : new_asks ≡ slice_set asks k (Some ask)
 
--- the host and the ask of a thread that an answer may be due to
+-- the same where an answer is due, and nothing where none is
+abbrev pub HearsAt : {H : Type 0} → (H → Option Ask) → (H → NextAsk → ℕ → List ℤ → List Answer → Type 0) → Option Answer → List H → List (Option Ask) → ℕ → List H → List (Option Ask) → Type 0
+HearsAt pending stands None hosts asks k new_hosts new_asks = (new_hosts ≡ hosts) × (new_asks ≡ asks)
+HearsAt pending stands (Some a) hosts asks k new_hosts new_asks = HeardAt pending stands hosts asks k a new_hosts new_asks
+
+-- the host and the ask of a thread that was answered
 pub record Told {H : Type 0} (pending : H → Option Ask) (stands : H → NextAsk → ℕ → List ℤ → List Answer → Type 0) (old new : Option H) (a : Answer) (q : Option (Option Ask)) : Type 0 where
   pub before : H
   pub was : old ≡ Some before
@@ -45,6 +50,7 @@ pub record Told {H : Type 0} (pending : H → Option Ask) (stands : H → NextAs
   pub noted : q ≡ Some (Some ask)
   pub heard : Heard pending stands before after a ask
 
+-- what the answer that is due to a thread, if one is, makes of its host and ask
 abbrev pub AfterDue : {H : Type 0} → (H → Option Ask) → (H → NextAsk → ℕ → List ℤ → List Answer → Type 0) → Option Answer → Option H → Option H → Option (Option Ask) → Option (Option Ask) → Type 0
 AfterDue pending stands None old new q r = (new ≡ old) × (r ≡ q)
 AfterDue pending stands (Some a) old new q r = Told pending stands old new a r
@@ -58,6 +64,7 @@ pub record ChildOf {H : Type 0} (pending : H → Option Ask) (stands : H → Nex
   pub closed : pending child ≡ None
   pub begins : (n : NextAsk) (at : ℕ) (its : List ℤ) (answers : List Answer) → stands parent n at its answers → stands child n body captures []
 
+-- the host that an ask starts, if it starts one
 abbrev pub IsChild : {H : Type 0} → (H → Option Ask) → (H → NextAsk → ℕ → List ℤ → List Answer → Type 0) → H → Ask → ℕ → Option H → Type 0
 IsChild pending stands parent ask count None = count_after ask count ≡ count
 IsChild pending stands parent ask count (Some child) = ChildOf pending stands parent ask count child

@@ -42,8 +42,9 @@ pub record Reached {H : Type 0} (pending : H → Option Ask) (stands : H → Nex
   pub serial : IsSerial p (start p) order
 
 -- thread t may step where a board and hosts stand
-pub record CanStep {H : Type 0} (pending : H → Option Ask) (stands : H → NextAsk → ℕ → List ℤ → List Answer → Type 0) (knows : Command → Type 0) (b : Board) (hosts : List H) (asks : List (Option Ask)) (t : ℕ) : Type 0 where
+pub record CanStep {H : Type 0} (pending : H → Option Ask) (stands : H → NextAsk → ℕ → List ℤ → List Answer → Type 0) (out : OutcomeOf) (knows : Command → Type 0) (b : Board) (hosts : List H) (asks : List (Option Ask)) (t : ℕ) : Type 0 where
   pub program : Program
+  pub outcome : program.outcome ≡ out
   pub known : Knows knows program
   pub order : List ℕ
   pub state : State

@@ -8,8 +8,8 @@ ghost use Rattle.sy_work.specs.Answers.{Fits};
 ghost use Rattle.sy_onecopy.specs.declared.Waits.TheVariants.{Due};
 ghost use Rattle.sy_onecopy.specs.State.{Board};
 ghost use Rattle.sy_onecopy.specs.Step.{once_heard};
-ghost use Rattle.sy_board.specs.Turns.{due_of};
-ghost use Rattle.sy_plain.specs.Hosts.{Asked, Heard, CanHear, HeardAt, AfterDue, IsChild, Seats, Born, Alone};
+ghost use Rattle.sy_board.specs.Turns.{due_of, hear_one};
+ghost use Rattle.sy_plain.specs.Hosts.{Asked, Heard, CanHear, HeardAt, HearsAt, AfterDue, IsChild, Seats, Born, Alone};
 
 use std::alloc::AllocError;
 use std::mem;
@@ -131,6 +131,27 @@ pub fn add_child<H: Host + Drop>(
     }
 }
 
+/// The answer that is due to thread k, if one is, reaches it.
+fn hear_at<H: Host>(
+    board: &mut OneCopy,
+    hosts: &mut Vec<H>,
+    asks: &mut Vec<Option<Ask>>,
+    k: usize,
+) -> Result<(), AllocError>
+    requires can { (a : Answer) → Some a ≡ due_of (slice_get board.old.waits k) → CanHear H.pending hosts.old.items k a }
+    requires same { length asks.old.items ≡ length hosts.old.items }
+    ensures board { OnOk result (board.new ≡ hear_one k board.old) }
+    ensures heard { OnOk result (HearsAt H.pending H.stands (due_of (slice_get board.old.waits k)) hosts.old.items asks.old.items k hosts.new.items asks.new.items) }
+{
+    match board.hear(k) {
+        Some(a) => {
+            tell_at(hosts, asks, k, a)?;
+            Ok(())
+        }
+        None => Ok(()),
+    }
+}
+
 /// The answers that are due reach their threads.
 pub fn hear_all<H: Host>(
     board: &mut OneCopy,
@@ -145,10 +166,8 @@ pub fn hear_all<H: Host>(
     ensures asks { OnOk result (length asks.new.items ≡ length asks.old.items) }
     ensures told { (u : ℕ) → OnOk result (AfterDue H.pending H.stands (due_of (slice_get board.old.waits u)) (slice_get hosts.old.items u) (slice_get hosts.new.items u) (slice_get asks.old.items u) (slice_get asks.new.items u)) }
 {
-    for k in 0..hosts.len() {
-        if let Some(a) = board.hear(k) {
-            tell_at(hosts, asks, k, a)?;
-        }
+    for k in 0..board.threads() {
+        hear_at(board, hosts, asks, k)?;
     }
     Ok(())
 }

@@ -46,7 +46,7 @@ fn step<H: Host + Drop, R: Runner>(
     t: u32,
     runner: &R,
 ) -> Result<(), AllocError>
-    requires can { CanStep H.pending H.stands (R.knows runner.now) board.old hosts.old.items asks.old.items t }
+    requires can { CanStep H.pending H.stands (R.outcome runner.now) (R.knows runner.now) board.old hosts.old.items asks.old.items t }
     requires known { AllKnown (R.knows runner.now) board.old.entries }
     ensures known { OnOk result (AllKnown (R.knows runner.now) board.new.entries) }
     ensures counted { OnOk result (board.new.steps ≡ board.old.steps + 1) }
