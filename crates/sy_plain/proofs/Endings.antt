@@ -1,19 +1,17 @@
 -- The least thread that may step, how a run ends, and one step more of an order.
-use Rattle.std.proofs.Common.{◌≡◌, ◌≢◌, ℕ, zero, suc, ◌+◌, ◌<◌, ◌≤◌, ◌^◌, ℤ, List, [], ◌∷◌, ◌++◌, length, drop, Option, Some, None, Bool, true, false, refl, sym, ap, ◌∙◌, subst, arith, get_or}
-use Rattle.std.specs.Prelude.{slice_get, ◌&&◌, if◌then◌else◌, nat_lt, is_none}
-use Rattle.std.proofs.lemmas.List.{drop_more}
+use Rattle.std.proofs.Common.{◌≡◌, ℕ, zero, suc, ◌+◌, ◌^◌, ℤ, List, [], ◌∷◌, ◌++◌, length, Option, Some, None, Bool, true, false, refl, sym, ap, ◌∙◌, subst, arith}
+use Rattle.std.specs.Prelude.{slice_get, ◌&&◌, if◌then◌else◌, nat_lt}
 use Rattle.sy_work.specs.Programs.{Program, NextAsk}
 use Rattle.sy_work.specs.declared.asks.Ask.{Ask}
 use Rattle.sy_work.specs.declared.asks.Answer.{Answer}
-use Rattle.sy_work.specs.declared.commands.Command.{Command}
 use Rattle.sy_work.specs.declared.endings.Ending.{Ending}
 use Rattle.sy_work.specs.declared.endings.Ending.TheVariants.{Stuck, HistoryFull}
 use Rattle.sy_onecopy.specs.declared.Waits.{Waits}
 use Rattle.sy_onecopy.specs.declared.Waits.TheVariants.{Ready}
-use Rattle.sy_onecopy.specs.State.{Board, Thread, State, opening, start, new_thread, next_ask, ask_of}
+use Rattle.sy_onecopy.specs.State.{Board, Thread, State, opening, start, new_thread, next_ask}
 use Rattle.sy_onecopy.specs.Step.{step}
-use Rattle.sy_onecopy.specs.Sequence.{goes_on, ready_at, is_clear, may_step, is_legal, seq, seq_from, first_from, first_thread, has_open_node, first_error, ending_after_main, ending_of_threads, ending_of_main, ending_of_steps, ending, value_of_main, IsSerial}
-use Rattle.sy_board.specs.Turns.{may_go, main_ended, ended_by, ended_after, ending_at}
+use Rattle.sy_onecopy.specs.Sequence.{goes_on, ready_at, is_clear, may_step, is_legal, seq_from, first_from, first_thread, has_open_node, first_error, ending_after_main, ending_of_threads, ending_of_main, ending_of_steps, ending, value_of_main, IsSerial}
+use Rattle.sy_board.specs.Turns.{may_go, ended_by, ended_after, ending_at}
 use Rattle.sy_plain.specs.Hosts.{Seats}
 use Rattle.sy_plain.specs.Runs.{StandsAt, Hold, Reached, least}
 use Rattle.sy_plain.proofs.Lists.{some_is}
@@ -100,16 +98,12 @@ by_steps : (b : Board) (first : Option ℕ) (o : Option Ending) → ended_after 
 by_steps b first None h = by_threads b first (value_of_main b.waits) h
 by_steps b first (Some e) h = some_none h
 
--- a run that has no ending has a thread that may step
-pub has_first : (b : Board) → ending_at b None ≡ None → ⊥
-has_first b h = some_none (by_steps b None b.ended h)
-
 in_time : (v : Bool) → (if v then None else Some HistoryFull) ≡ None → v ≡ true
 in_time true h = refl
 in_time false h = some_none h
 
--- and steps left
-pub has_time : (b : Board) (t : ℕ) → ending_at b (Some t) ≡ None → nat_lt b.steps (2 ^ 24) ≡ true
+-- a run that has no ending has steps left
+has_time : (b : Board) (t : ℕ) → ending_at b (Some t) ≡ None → nat_lt b.steps (2 ^ 24) ≡ true
 has_time b t h = in_time (nat_lt b.steps (2 ^ 24)) (by_steps b (Some t) b.ended h)
 
 first_passes : (test : ℕ → Bool) (k : ℕ) (ws : List Waits) (t : ℕ) → first_from test k ws ≡ Some t → test t ≡ true
@@ -125,7 +119,7 @@ pub legal_of : (p : Program) (s : State) (b : Board) (t : ℕ) → b ≡ s.board
 unfolding first_thread
 legal_of p s b t eb h first =
     both (may_step p s t) (nat_lt s.board.steps (2 ^ 24)) (first_passes (may_step p s) 0 s.board.waits t first)
-      (ap (λ (k : Board). nat_lt k.steps (2 ^ 24)) (sym eb) ∙ has_time b t h)
+    (ap (λ (k : Board). nat_lt k.steps (2 ^ 24)) (sym eb) ∙ has_time b t h)
 
 -- ---- one step more
 

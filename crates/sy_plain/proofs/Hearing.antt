@@ -1,6 +1,6 @@
 -- Answers that reach their hosts one after another.
-use Rattle.std.proofs.Common.{◌≡◌, ◌≢◌, ℕ, zero, suc, ◌+◌, ◌<◌, ◌≤◌, ℤ, List, [], ◌∷◌, ◌++◌, length, map, Option, Some, None, Bool, true, false, refl, sym, ap, ◌∙◌, subst, arith, ◌⊎◌, inl, inr}
-use Rattle.std.specs.Prelude.{slice_get, slice_set}
+use Rattle.std.proofs.Common.{◌≡◌, ◌≢◌, ℕ, zero, suc, ◌+◌, ◌<◌, ◌≤◌, ℤ, List, [], ◌∷◌, length, map, Option, Some, None, refl, sym, ap, ◌∙◌, subst, arith, ◌⊎◌, inl, inr}
+use Rattle.std.specs.Prelude.{slice_get}
 use Rattle.std.proofs.lemmas.Bool.{cases_eq}
 use Rattle.std.proofs.lemmas.Option.{slice_get_within, slice_get_past}
 use Rattle.sy_onecopy.specs.declared.Waits.{Waits}
@@ -12,7 +12,7 @@ use Rattle.sy_work.specs.Programs.{NextAsk}
 use Rattle.sy_work.specs.declared.asks.Ask.{Ask}
 use Rattle.sy_work.specs.declared.asks.Answer.{Answer}
 use Rattle.sy_board.proofs.Giving.{first_changed, first_changed-more, first_changed-all}
-use Rattle.sy_plain.specs.Hosts.{Heard, CanHear, HeardAt, HearsAt, Told, AfterDue, ChildOf, Seats, Born, Alone}
+use Rattle.sy_plain.specs.Hosts.{CanHear, HeardAt, HearsAt, Told, AfterDue}
 use Rattle.sy_plain.proofs.Lists.{set_same, set_other, length-set}
 
 -- the members from k on are as they were

@@ -1,22 +1,21 @@
 -- What a run knows at each turn of its loop.
-use Rattle.std.proofs.Common.{◌≡◌, ℕ, ◌+◌, ◌-◌, ◌<◌, ◌≤◌, ◌^◌, ℤ, List, [], ◌∷◌, ◌++◌, length, Option, Some, None, Bool, true, false, refl, sym, ap, ◌∙◌, subst, arith}
-use Rattle.std.specs.Prelude.{slice_get, ◌&&◌, nat_lt}
+use Rattle.std.proofs.Common.{◌≡◌, ℕ, ◌≤◌, ◌^◌, ℤ, List, [], ◌∷◌, ◌++◌, length, Option, Some, None, true, sym, ap, ◌∙◌, subst, arith}
+use Rattle.std.specs.Prelude.{slice_get}
 use Rattle.sy_work.specs.Programs.{Program, NextAsk, OutcomeOf}
 use Rattle.sy_work.specs.declared.asks.Ask.{Ask}
 use Rattle.sy_work.specs.declared.asks.Answer.{Answer}
 use Rattle.sy_work.specs.declared.commands.Command.{Command}
 use Rattle.sy_work.specs.declared.endings.Ending.{Ending}
-use Rattle.sy_onecopy.specs.State.{Board, State, start, opening}
+use Rattle.sy_onecopy.specs.State.{Board, opening}
 use Rattle.sy_onecopy.specs.Copies.{copies}
 use Rattle.sy_onecopy.specs.Step.{step}
-use Rattle.sy_onecopy.specs.Sequence.{first_thread, is_legal, may_step, seq, IsRun}
+use Rattle.sy_onecopy.specs.Sequence.{first_thread, is_legal, IsRun}
 use Rattle.sy_sound.specs.Sound.{IsSound}
 use Rattle.sy_sound.proofs.Keeping.{seq-sound}
 use Rattle.sy_board.specs.Known.{AllKnown}
 use Rattle.sy_board.specs.Turns.{ending_at}
-use Rattle.sy_plain.specs.Runs.{Begins, Knows, Hold, Reached, CanStep, least}
-use Rattle.sy_plain.proofs.Endings.{first_is, ending_is, has_time, legal_of, reached_more}
-use Rattle.sy_plain.proofs.Stepping.{nat_lt-true}
+use Rattle.sy_plain.specs.Runs.{Knows, Hold, Reached, CanStep, least}
+use Rattle.sy_plain.proofs.Endings.{first_is, ending_is, legal_of, reached_more}
 
 module _ {H : Type 0} (pending : H → Option Ask) (stands : H → NextAsk → ℕ → List ℤ → List Answer → Type 0) (p : Program) (b : Board) (hosts : List H) (asks : List (Option Ask)) (order : List ℕ) (r : Reached pending stands p b hosts asks order) where
   pub sound_board : IsSound b
@@ -50,13 +49,7 @@ module _ {H : Type 0} (pending : H → Option Ask) (stands : H → NextAsk → �
   pub more : (c : Board) (last : List H) (last_asks : List (Option Ask)) (new : List ℕ) (t : ℕ) (xs : List (Option Ask)) → xs ≡ asks → Some t ≡ least b 0 xs → None ≡ ending_at b (Some t) → new ≡ order ++ t ∷ [] → Hold pending stands p c last last_asks (step p r.state t) → Reached pending stands p c last last_asks new
   more c last last_asks new t xs ex et none en hold =
       subst (λ l. Reached pending stands p c last last_asks l) (sym en)
-        (reached_more pending stands p b c hosts last asks last_asks order t r (legal_first t xs ex et none) (sym (first (Some t) xs ex et)) hold)
-
--- a step leaves fewer
-pub fewer : (b c : Board) (t : ℕ) → None ≡ ending_at b (Some t) → c.steps ≡ b.steps + 1 → 2 ^ 24 - c.steps < 2 ^ 24 - b.steps
-fewer b c t none e =
-    let lt : b.steps < 2 ^ 24 = nat_lt-true b.steps (2 ^ 24) (has_time b t (sym none)) in
-    omega (arith, lt, e)
+      (reached_more pending stands p b c hosts last asks last_asks order t r (legal_first t xs ex et none) (sym (first (Some t) xs ex et)) hold)
 
 -- where nothing is submitted, every command is known
 pub known_opening : (knows : Command → Type 0) (b : Board) → b ≡ opening → AllKnown knows b.entries

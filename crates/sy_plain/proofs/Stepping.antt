@@ -1,12 +1,12 @@
 -- What the parts of a step need of a board and hosts that stand for a state, and what they leave.
-use Rattle.std.proofs.Common.{◌≡◌, ◌≢◌, ℕ, suc, ◌+◌, ◌<◌, ◌≤◌, ◌^◌, ℤ, List, [], ◌∷◌, length, map, Option, Some, None, Bool, true, false, refl, sym, ap, ◌∙◌, subst, arith, ◌⊎◌, inl, inr}
+use Rattle.std.proofs.Common.{◌≡◌, ℕ, ◌+◌, ◌<◌, ◌^◌, ℤ, List, [], length, map, Option, Some, None, Bool, true, false, sym, ap, ◌∙◌, subst, arith, ◌⊎◌, inl, inr}
 use Rattle.std.specs.Prelude.{slice_get, slice_set, ◌&&◌, nat_lt}
 use Rattle.sy_work.specs.Programs.{Program, NextAsk, OutcomeOf}
 use Rattle.sy_work.specs.declared.asks.Ask.{Ask}
 use Rattle.sy_work.specs.declared.asks.Answer.{Answer}
 use Rattle.sy_work.specs.declared.commands.Command.{Command}
 use Rattle.sy_onecopy.specs.declared.Waits.TheVariants.{Due}
-use Rattle.sy_onecopy.specs.State.{Board, Thread, State, next_ask, ask_of}
+use Rattle.sy_onecopy.specs.State.{Board, State, next_ask}
 use Rattle.sy_onecopy.specs.Step.{turn, step, once_heard}
 use Rattle.sy_onecopy.specs.Sequence.{ready_at, may_step, is_legal, seq}
 use Rattle.sy_onecopy.proofs.Steps.{steps_counted}
@@ -15,7 +15,7 @@ use Rattle.sy_sound.proofs.Keeping.{seq-sound}
 use Rattle.sy_answers.specs.Fitting.{board_after, count_after}
 use Rattle.sy_answers.proofs.Runs.{counted, step_fits}
 use Rattle.sy_answers.proofs.Turns.{legal_ready}
-use Rattle.sy_board.specs.Known.{AllKnown, IsKnown}
+use Rattle.sy_board.specs.Known.{IsKnown}
 use Rattle.sy_board.specs.Turns.{due_of}
 use Rattle.sy_plain.specs.Hosts.{CanHear, AfterDue, Born, Alone}
 use Rattle.sy_plain.specs.Runs.{StandsAt, Hold, Knows}
@@ -26,7 +26,7 @@ and_right : (a b : Bool) → (a && b) ≡ true → b ≡ true
 and_right true b h = h
 and_right false b h = absurd (let z : ⊥ = cc in z)
 
-pub nat_lt-true : (a b : ℕ) → nat_lt a b ≡ true → a < b
+nat_lt-true : (a b : ℕ) → nat_lt a b ≡ true → a < b
 nat_lt-true a b e = grind arith
 
 module _ {H : Type 0} (pending : H → Option Ask) (stands : H → NextAsk → ℕ → List ℤ → List Answer → Type 0) (p : Program) (order : List ℕ) (s : State) (t : ℕ) (b : Board) (hosts : List H) (asks : List (Option Ask)) (reached : seq p order ≡ Some s) (legal : is_legal p s t ≡ true) (hold : Hold pending stands p b hosts asks s) where

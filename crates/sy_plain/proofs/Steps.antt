@@ -1,23 +1,21 @@
 -- A step of the run keeps what hosts and board stand for.
-use Rattle.std.proofs.Common.{◌≡◌, ◌≢◌, ℕ, zero, suc, ◌+◌, ◌<◌, ◌≤◌, ℤ, List, [], ◌∷◌, ◌++◌, length, map, Option, Some, None, Bool, true, false, refl, sym, ap, ◌∙◌, subst, arith, ◌⊎◌, inl, inr}
+use Rattle.std.proofs.Common.{◌≡◌, ◌≢◌, ℕ, zero, suc, ◌<◌, ◌≤◌, ℤ, List, [], ◌∷◌, ◌++◌, length, map, Option, Some, None, Bool, true, false, refl, sym, ap, ◌∙◌, subst, arith, ◌⊎◌, inl, inr}
 use Rattle.std.specs.Prelude.{slice_get, slice_set, option_map, if◌then◌else◌, nat_lt}
-use Rattle.std.proofs.lemmas.Bool.{cases_eq}
 use Rattle.std.proofs.lemmas.List.{append-nil, length-map}
-use Rattle.std.proofs.lemmas.Option.{slice_get_within, slice_get-get_or, get_or_from_slice_get, slice_get-map}
+use Rattle.std.proofs.lemmas.Option.{slice_get_within, get_or_from_slice_get, slice_get-map}
 use Rattle.sy_work.specs.Programs.{Program, NextAsk}
-use Rattle.sy_work.specs.Answers.{Fits}
 use Rattle.sy_work.specs.declared.asks.Ask.{Ask}
 use Rattle.sy_work.specs.declared.asks.Ask.TheVariants.{Spawn}
 use Rattle.sy_work.specs.declared.asks.Answer.{Answer}
 use Rattle.sy_onecopy.specs.declared.Waits.{Waits}
 use Rattle.sy_onecopy.specs.declared.Waits.TheVariants.{Ready, Due, OnEntry, OnNode, OnQueue, OnThread, Never, Finished}
-use Rattle.sy_onecopy.specs.State.{Board, Thread, State, new_thread, next_ask, ask_of, thread_at}
-use Rattle.sy_onecopy.specs.Step.{turn, step, once_heard}
+use Rattle.sy_onecopy.specs.State.{Board, Thread, State, new_thread, next_ask, ask_of}
+use Rattle.sy_onecopy.specs.Step.{step, once_heard}
 use Rattle.sy_onecopy.specs.Sequence.{ready_at, is_legal, seq}
-use Rattle.sy_answers.specs.Fitting.{StepFits, Counted, IsSpawn, board_after, count_after, due_at}
+use Rattle.sy_answers.specs.Fitting.{StepFits, Counted, board_after, count_after, due_at}
 use Rattle.sy_answers.proofs.Runs.{counted, step_fits, all_told, all_started, all_counted}
 use Rattle.sy_board.specs.Turns.{due_of}
-use Rattle.sy_plain.specs.Hosts.{CanHear, Told, AfterDue, ChildOf, Seats, Born, Alone}
+use Rattle.sy_plain.specs.Hosts.{CanHear, Told, AfterDue, Born, Alone}
 use Rattle.sy_plain.specs.Runs.{StandsAt, Hold}
 use Rattle.sy_plain.proofs.Lists.{set_other, length-set, push_before, push_last, length-push, some_is, member}
 
@@ -94,12 +92,6 @@ grows_by_spawn (Spawn body captures) n lt =
     let v : nat_lt n 64 ≡ true = spawns_if (nat_lt n 64) n lt in
     record { body = body; captures = captures; is = refl; room = nat_lt-true n 64 v; more = ap (λ x. if x then suc n else n) v }
 grows_by_spawn ask n lt = absurd (omega (arith, lt))
-
-nat_lt-is : (a b : ℕ) → a < b → nat_lt a b ≡ true
-nat_lt-is a b lt = grind arith
-
-spawn_grows : (body : ℕ) (captures : List ℤ) (n : ℕ) → n < 64 → count_after (Spawn body captures) n ≡ suc n
-spawn_grows body captures n lt = ap (λ x. if x then suc n else n) (nat_lt-is n 64 lt)
 
 -- ---- the board after a step
 
@@ -208,6 +200,7 @@ module _ {H : Type 0} (pending : H → Option Ask) (stands : H → NextAsk → �
 
       within : u < length s.threads
       within = elim (below_or_not u (length s.threads)) [ inl lt ↦ lt | inr le ↦ absurd (not_new (omega (arith, le, sized.members))) ]
+
       m : (x : Thread) × (slice_get s.threads u ≡ Some x)
       m = member s.threads u within
 

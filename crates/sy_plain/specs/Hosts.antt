@@ -1,5 +1,5 @@
 -- What a host has done once it has asked, was answered, or started another.
-use Rattle.std.specs.Prelude.{◌≡◌, ◌⊎◌, ℕ, suc, ℤ, List, [], ◌∷◌, ◌++◌, Option, Some, None, slice_get, slice_set}
+use Rattle.std.specs.Prelude.{◌≡◌, ℕ, suc, ℤ, List, [], ◌∷◌, ◌++◌, Option, Some, None, slice_get, slice_set}
 use Rattle.sy_work.specs.Programs.{NextAsk}
 use Rattle.sy_work.specs.Answers.{Fits}
 use Rattle.sy_work.specs.declared.asks.Ask.{Ask}

@@ -1,6 +1,4 @@
-use Rattle.std.proofs.Common.{◌≡◌, ◌<◌, ◌≤◌, arith, length, rules, sym, ◌∙◌, refl, Option}
-use Rattle.std.specs.Prelude.{slice_get}
-use Rattle.sy_board.specs.Turns.{due_of}
+use Rattle.std.proofs.Common.{◌≡◌, ◌<◌, ◌≤◌, arith, length, sym, refl}
 use Rattle.sy_plain.proofs.Hearing.{hearing_none, hearing_step, can_still, due_still, due_there, heard_more, heard_all, told_past}
 use Rattle.sy_plain.proofs.hosts.hear_all.Goals as goal
 

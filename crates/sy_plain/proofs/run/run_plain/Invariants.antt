@@ -1,4 +1,4 @@
-use Rattle.std.proofs.Common.{◌≡◌, ◌+◌, ◌-◌, ◌^◌, ℕ, List}
+use Rattle.std.proofs.Common.{◌-◌, ◌^◌}
 use Rattle.sy_work.specs.Programs.{Program}
 use Rattle.sy_board.specs.Known.{AllKnown}
 use Rattle.sy_plain.specs.Runs.{Begins, Reached}

@@ -1,6 +1,5 @@
-use Rattle.std.proofs.Common.{◌≡◌, ◌∙◌, ap, sym, subst, ◌+◌}
+use Rattle.std.proofs.Common.{◌∙◌, ap, sym, subst}
 use Rattle.sy_onecopy.specs.State.{Board}
-use Rattle.sy_onecopy.specs.Step.{turn}
 use Rattle.sy_board.specs.Known.{AllKnown}
 use Rattle.sy_board.proofs.Knowing.{known_turn}
 use Rattle.sy_plain.proofs.Stepping.{noted, parent, sound, time, known, between_of, turned, hosts_count, asks_count, can, held, turn_counts}
