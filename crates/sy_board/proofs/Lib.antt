@@ -1,0 +1,5 @@
+pub mod Each
+pub mod Giving
+pub mod Room
+pub mod Knowing
+pub mod Effects

@@ -1,0 +1,17 @@
+use Rattle.std.proofs.Common.{◌≡◌, ◌∙◌, ap, arith, ◌<◌, length, vec_len, rules}
+use Rattle.std.specs.Prelude.{slice_set}
+use Rattle.sy_onecopy.specs.Step.{with_end}
+use Rattle.sy_board.proofs.Each.{changed_at-set, changed_at-past}
+use Rattle.sy_board.proofs.board.set_ended.Goals as goal
+
+pub returns-then-k-len : goal.returns-then-k-len
+returns-then-k-len c =
+    let n : vec_len c.args.buffers.now ≡ length c.args.buffers.now.items = search rules in
+    let lt : c.args.k < length c.args.buffers.now.items = omega (arith, c.len.ensures, n) in
+    ap (λ x. slice_set c.args.buffers.now.items c.args.k (with_end x)) c.index_mut.ensures.value
+    ∙ changed_at-set with_end c.args.k c.args.buffers.now.items c.index_mut.result.now lt
+
+pub returns-else-k-len : goal.returns-else-k-len
+returns-else-k-len c =
+    let n : vec_len c.args.buffers.now ≡ length c.args.buffers.now.items = search rules in
+    changed_at-past with_end c.args.k c.args.buffers.now.items (omega (arith, c.len.ensures, n))

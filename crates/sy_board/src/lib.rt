@@ -1,0 +1,13 @@
+//! The board of the one-copy machine as values, and what each ask of a thread does to it, written as
+//! the definitions say it. It serves to compare other runtimes with, so it is plain and not fast.
+#![tactic(auto)]
+
+mod board;
+mod cells;
+mod copies;
+mod endings;
+mod needs;
+mod order;
+mod waits;
+
+pub use board::OneCopy;
