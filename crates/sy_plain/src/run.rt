@@ -10,7 +10,7 @@ ghost use Rattle.sy_plain.specs.Runs.{Begins, Knows, Hold, CanStep, least};
 
 use crate::hosts::{add_child, hear_all, seat, take_ask};
 use std::alloc::{AllocError, Global};
-use sy_access::{Bytes, Numbers};
+use sy_access::Bytes;
 use sy_board::OneCopy;
 use sy_work::{Ask, Ending, Host, Runner};
 
@@ -19,7 +19,7 @@ use sy_work::{Ask, Ending, Host, Runner};
 #[derive(Debug, Drop)]
 pub struct End {
     pub ending: Ending,
-    pub order: Numbers,
+    pub order: Vec<u32>,
     pub output: Bytes,
     pub copies: u64,
 }
@@ -67,7 +67,7 @@ pub fn run_plain<H: Host + Drop, R: Runner>(
 ) -> Result<End, AllocError>
     requires closed { H.pending main ≡ None }
     requires begins { (p : Program) × Begins H.stands (R.outcome runner.now) p main × Knows (R.knows runner.now) p }
-    ensures run { (p : Program) → Begins H.stands (R.outcome runner.now) p main → IfOk result (λ e. IsRun p e.order e.ending e.output e.copies) }
+    ensures run { (p : Program) → Begins H.stands (R.outcome runner.now) p main → IfOk result (λ e. IsRun p e.order.items e.ending e.output e.copies) }
 {
     let mut board = OneCopy::new(alloc)?;
     let mut hosts = Vec::new(alloc);
@@ -80,7 +80,7 @@ pub fn run_plain<H: Host + Drop, R: Runner>(
             let copies = board.copies(alloc)?;
             return Ok(End {
                 ending,
-                order: Numbers::of(order),
+                order,
                 output: board.into_output(),
                 copies,
             });

@@ -4,7 +4,7 @@
 mod scripts;
 mod tables;
 
-pub use scripts::{Script, Scripted};
+pub use scripts::{Line, Script, Scripted};
 pub use tables::{TableRow, Tabled};
 
 #[cfg(test)]

@@ -11,12 +11,15 @@ use sy_work::{
 
 fn scripts(alloc: Global) -> Result<Vec<Script>, AllocError> {
     let mut main = Vec::new(alloc);
-    main.push(Ask::Print(Bytes::of(b"hi".to_vec(alloc)?)))?;
-    main.push(Ask::Spawn(1, Values::of([7].to_vec(alloc)?)))?;
-    main.push(Ask::Finish(3))?;
+    main.push(Line::of(Ask::Print(Bytes::of(b"hi".to_vec(alloc)?))))?;
+    main.push(Line {
+        ask: Ask::Spawn(1, Values::of([7].to_vec(alloc)?)),
+        wants: Some(Answer::Number(1)),
+    })?;
+    main.push(Line::of(Ask::Finish(3)))?;
     let mut scripts = Vec::new(alloc);
     scripts.push(Script::of(main))?;
-    scripts.push(Script::of(vec![in alloc; Ask::Join(0)]?))?;
+    scripts.push(Script::of(vec![in alloc; Line::of(Ask::Join(0))]?))?;
     Ok(scripts)
 }
 
