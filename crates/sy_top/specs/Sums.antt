@@ -1,5 +1,5 @@
 -- What a source of the small form asks.
-use Rattle.std.specs.Prelude.{◌≡◌, ℕ, zero, suc, ◌+◌, ℤ, pos, negsuc, int_le, Bool, true, false, not, ◌&&◌, nat_lt, nat_le, ◌^◌, ◌++◌, if◌then◌else◌, List, [], ◌∷◌, length, take, drop, fold, Option, Some, None, Result, Ok, Err}
+use Rattle.std.specs.Prelude.{ℕ, zero, suc, ◌+◌, ℤ, pos, negsuc, int_le, Bool, true, false, not, ◌&&◌, nat_lt, if◌then◌else◌, List, [], ◌∷◌, length, take, drop, fold, Option, Some, None, Result, Ok, Err}
 use Rattle.std.specs.List.{prefix_len}
 use Rattle.std.specs.Fmt.{signed_decimal}
 use Rattle.sy_num.specs.declared.Kind.TheVariants.{Int, Long}
@@ -21,8 +21,6 @@ use Rattle.sy_top.specs.declared.sums.Given.{Given}
 use Rattle.sy_top.specs.declared.sums.Given.TheVariants.{Number}
 use Rattle.sy_top.specs.declared.sums.Given.TheVariants as given
 use Rattle.sy_top.specs.declared.sums.Operand.{Operand}
-use Rattle.sy_top.specs.declared.sums.Next.{Next}
-use Rattle.sy_top.specs.declared.sums.Next.TheVariants as next
 
 -- a decimal literal without suffix has the first kind of Int and Long that can represent it
 abbrev pub literal : ℤ → Scalar

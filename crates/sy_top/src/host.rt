@@ -109,6 +109,7 @@ impl<'a> Host for Sums<'a> {
 }
 
 /// A runner for a source without commands: each leaves everything as it is.
+#[derive(Drop)]
 pub struct NoCommands {
     pub alloc: Global,
 }

@@ -33,8 +33,7 @@ pub returns-in-Some : goal.returns-in-Some
 returns-in-Some g c = record {
   run = λ p bg.
       let r = c.loop-ending.invariant.reached p bg in
-      let one = run_is g.H.Host.pending g.H.Host.stands p c.loop-ending.board c.loop-ending.hosts.items c.loop-ending.asks.items c.loop-ending.order.items r c.first_thread-first.result c.as_slice.result.now c.in-Some.ending c.into_output.result c.in_ok-copies.copies c.as_slice.ensures.value c.first_thread-first.ensures c.in-Some.ensures c.into_output.ensures c.in_ok-copies.ensures in
-      subst (λ (l : List ℕ). IsRun p l c.in-Some.ending c.into_output.result c.in_ok-copies.copies) (sym c.of.ensures) one;
+      run_is g.H.Host.pending g.H.Host.stands p c.loop-ending.board c.loop-ending.hosts.items c.loop-ending.asks.items c.loop-ending.order.items r c.first_thread-first.result c.as_slice.result.now c.in-Some.ending c.into_output.result c.in_ok-copies.copies c.as_slice.ensures.value c.first_thread-first.ensures c.in-Some.ensures c.into_output.ensures c.in_ok-copies.ensures;
 }
 
 pub step-requires-clause-can : goal.step-requires-clause-can

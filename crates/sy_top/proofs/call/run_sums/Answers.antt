@@ -18,7 +18,7 @@ pub returns : goal.returns
 returns c =
     let p = sums_program c.args.set.now.turns c.args.pieces.now in
     let end = c.in_ok-ending.field-0 in
-    let run = c.in_ok-ending.ensures p (record { at = c.new-main.ensures.begins; outcome = refl }) in
+    let run = c.in_ok-ending.ensures.run p (record { at = c.new-main.ensures.begins; outcome = refl }) in
     record {
       run = run;
       main_alone = main_alone c.args.set.now.turns c.args.pieces.now run.state end.order.items run.legal;
