@@ -1,5 +1,5 @@
 -- Functions of place and member over a list, one after another and at one place.
-use Rattle.std.proofs.Common.{◌≡◌, ℕ, zero, suc, ◌+◌, ◌<◌, ◌≤◌, List, [], ◌∷◌, length, set, replicate, refl, sym, ap, ◌∙◌, arith}
+use Rattle.std.proofs.Common.{◌≡◌, ℕ, zero, suc, ◌+◌, ◌<◌, ◌≤◌, List, [], ◌∷◌, length, get_or, set, replicate, refl, sym, ap, ◌∙◌, arith}
 use Rattle.sy_copies.specs.Each.{each_from}
 
 -- two functions that agree within the list
@@ -51,3 +51,15 @@ pub each_from-replicate : {A B : Type 0} (f g : ℕ → A → B) (y : A) → ((i
 each_from-replicate f g y e k zero = refl
 each_from-replicate f g y e k (suc n) =
     ap (λ z. z ∷ each_from f (suc k) (replicate n y)) (e k) ∙ ap (λ l. g k y ∷ l) (each_from-replicate f g y e (suc k) n)
+
+-- a function that changes the member at one place alone, by what stands there
+pub each_from-one : {A : Type 0} (f : ℕ → A → A) (k j : ℕ) (xs : List A) (was is : A) → j < length xs → was ≡ get_or xs j was → is ≡ f (k + j) was → ((i : ℕ) (x : A) → (i ≡ k + j → ⊥) → f i x ≡ x) → set xs j is ≡ each_from f k xs
+each_from-one f k j [] was is h read e keeps = absurd (omega arith)
+each_from-one f k zero (x ∷ xs) was is h read e keeps =
+    let here : k + 0 ≡ k = omega arith in
+    ap (λ z. z ∷ xs) (e ∙ ap (f (k + 0)) read ∙ ap (λ n. f n x) here)
+        ∙ ap (λ l. f k x ∷ l) (sym (each_from-kept f (suc k) xs (λ i z a b. keeps i z (λ t. omega arith))))
+each_from-one f k (suc j) (x ∷ xs) was is h read e keeps =
+    let here : suc k + j ≡ k + suc j = omega arith in
+    ap (λ l. x ∷ l) (each_from-one f (suc k) j xs was is (omega arith) read (e ∙ ap (λ n. f n was) (sym here)) (λ i z n. keeps i z (λ t. n (t ∙ sym here))))
+        ∙ ap (λ z. z ∷ each_from f (suc k) xs) (sym (keeps k x (λ t. omega arith)))

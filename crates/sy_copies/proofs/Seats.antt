@@ -63,3 +63,8 @@ after_elsewhere p replaced needs log b s e = rw (ne_eqb s.place p e) refl
 pub shown : (o : Option (Bor (List ℤ))) (y : Option (List ℤ)) → y ≡ option_copied o → MatchOption o (y ≡ None) (λ v. y ≡ Some v.now)
 shown None y e = e
 shown (Some v) y e = e
+
+-- what is shown of one value is shown of an equal one
+pub same_shown : (o : Option (Bor (List ℤ))) {x y : Option (List ℤ)} → MatchOption o (x ≡ None) (λ v. x ≡ Some v.now) → x ≡ y → MatchOption o (y ≡ None) (λ v. y ≡ Some v.now)
+same_shown None h e = sym e ∙ h
+same_shown (Some v) h e = sym e ∙ h

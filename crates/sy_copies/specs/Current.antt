@@ -60,7 +60,7 @@ Sound c = (b : ℕ) → IsSound (buffer_at c b)
 
 -- the buffer, once the command's version of this root stands at the place
 unfoldable pub publish_one : ℕ → List Need → List (Cell × ℤ) → ℕ → ℕ → Option Buffer → Option Buffer
-publish_one place needs log root b x = if b == root then option_map (published place needs log b) x else x
+publish_one place needs log root b x = if root == b then option_map (published place needs log b) x else x
 
 -- the buffer, once the versions of those roots stand at the place on which one of the last needs writes
 unfoldable pub publish_at : ℕ → List Need → List (Cell × ℤ) → List Need → ℕ → Option Buffer → Option Buffer

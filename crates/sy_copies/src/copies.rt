@@ -11,6 +11,9 @@ use std::alloc::{AllocError, Global};
 use std::marker::Model;
 use sy_access::{Log, Need, Needs, Values};
 
+#[cfg(test)]
+mod probe;
+
 /// For each place the current copies of the buffers that were made. Buffers are numbered from 0.
 ///
 /// All current copies of a buffer are equal as long as each copy that is installed equals the others.
@@ -69,10 +72,7 @@ impl Copies {
         ensures room { IsTrue (has_room self.old place buffer) → IsOk result }
         ensures agree { Agree self.old → ((p : ℕ) (v : List ℤ) → copy_at self.old p buffer ≡ Some v → v ≡ values) → Agree self.new }
     {
-        match self.buffers.get_mut(buffer as usize) {
-            Some(entry) => install_in(entry, place, values),
-            None => Err(values),
-        }
+        install_in(&mut self.buffers[buffer as usize], place, values)
     }
 
     /// Takes room for a copy of the buffer at the place, if it has none.
@@ -83,10 +83,7 @@ impl Copies {
         ensures agree { Agree self.old → Agree self.new }
     {
         let alloc = self.alloc;
-        match self.buffers.get_mut(buffer as usize) {
-            Some(entry) => reserve_in(entry, alloc, place),
-            None => Ok(()),
-        }
+        reserve_in(&mut self.buffers[buffer as usize], alloc, place)
     }
 
     /// Makes the version that a command at the place leaves of each root on which one of its needs
@@ -104,9 +101,13 @@ impl Copies {
     pub fn view(&self, place: u32, buffer: u32) -> Option<&Values>
         ensures { MatchOption result (copy_at self.now place buffer ≡ None) (λ v. copy_at self.now place buffer ≡ Some v.now) }
     {
-        match self.buffers.get(buffer as usize) {
-            Some(Some(kept)) => kept.view(place),
-            Some(None) | None => None,
+        let number = buffer as usize;
+        if number >= self.buffers.len() {
+            return None;
+        }
+        match &self.buffers[number] {
+            Some(kept) => kept.view(place),
+            None => None,
         }
     }
 
@@ -115,9 +116,9 @@ impl Copies {
         ensures dropped { Drops self.old self.new buffer }
         ensures agree { Agree self.old → Agree self.new }
     {
-        match self.buffers.get_mut(buffer as usize) {
-            Some(entry) => drop_in(entry),
-            None => {}
+        let number = buffer as usize;
+        if number < self.buffers.len() {
+            drop_in(&mut self.buffers[number]);
         }
     }
 }
@@ -138,8 +139,8 @@ fn publish_all(buffers: &mut [Option<Buffer>], alloc: Global, place: u32, needs:
 fn publish_root(buffers: &mut [Option<Buffer>], alloc: Global, place: u32, root: u32, needs: &[Need], log: &Log)
     ensures { buffers.new ≡ each_from (publish_one place needs.now log.now root) 0 buffers.old }
 {
-    match buffers.get_mut(root as usize) {
-        Some(entry) => publish_in(entry, alloc, place, root, needs, log),
-        None => {}
+    let number = root as usize;
+    if number < buffers.len() {
+        publish_in(&mut buffers[number], alloc, place, root, needs, log);
     }
 }

@@ -13,3 +13,6 @@ mod needs;
 mod slots;
 
 pub use copies::Copies;
+
+#[cfg(test)]
+mod tests;
