@@ -26,16 +26,16 @@ first_equal len (Some x) p q v w a c = sym (only (0 == p) x v a) ∙ only (0 == 
 pub agree_makes : (old new : List (Option Buffer)) (len : ℕ) (init : Option (List ℤ)) (n : ℕ) → Makes old new len init n → Agree old → Agree new
 agree_makes old new len init n made h b p q v w a c =
     ⊎_elim
-        (λ t. first_equal len init p q v w (sym (made.copies p b ∙ (rw t.0 refl)) ∙ a) (sym (made.copies q b ∙ (rw t.0 refl)) ∙ c))
-        (λ t. h b p q v w (sym (made.copies p b ∙ (rw t.0 refl)) ∙ a) (sym (made.copies q b ∙ (rw t.0 refl)) ∙ c))
-        (eqb_tells n b)
+    (λ t. first_equal len init p q v w (sym (made.copies p b ∙ (rw t.0 refl)) ∙ a) (sym (made.copies q b ∙ (rw t.0 refl)) ∙ c))
+    (λ t. h b p q v w (sym (made.copies p b ∙ (rw t.0 refl)) ∙ a) (sym (made.copies q b ∙ (rw t.0 refl)) ∙ c))
+    (eqb_tells n b)
 
 pub agree_drops : (old new : List (Option Buffer)) (k : ℕ) → Drops old new k → Agree old → Agree new
 agree_drops old new k dropped h b p q v w a c =
     ⊎_elim
-        (λ t. absurd (let z : None ≡ Some v = sym (dropped.copies p b ∙ (rw t.0 refl)) ∙ a in cc))
-        (λ t. h b p q v w (sym (dropped.copies p b ∙ (rw t.0 refl)) ∙ a) (sym (dropped.copies q b ∙ (rw t.0 refl)) ∙ c))
-        (eqb_tells k b)
+    (λ t. absurd (let z : None ≡ Some v = sym (dropped.copies p b ∙ (rw t.0 refl)) ∙ a in cc))
+    (λ t. h b p q v w (sym (dropped.copies p b ∙ (rw t.0 refl)) ∙ a) (sym (dropped.copies q b ∙ (rw t.0 refl)) ∙ c))
+    (eqb_tells k b)
 
 -- a copy of the buffer is the one that was installed, if the others equal it
 chosen : (c : Bool) (v u : List ℤ) (o : Option (List ℤ)) → ((w : List ℤ) → o ≡ Some w → w ≡ v) → (if c then Some v else o) ≡ Some u → u ≡ v
@@ -45,11 +45,11 @@ chosen false v u o h e = h u e
 pub agree_installs : (old new : List (Option Buffer)) (place k : ℕ) (x : List ℤ) → Installs old new place k x → Agree old → ((p : ℕ) (v : List ℤ) → copy_at old p k ≡ Some v → v ≡ x) → Agree new
 agree_installs old new place k x put h same b p q v w a c =
     ⊎_elim
-        (λ t. let each : (r : ℕ) (u : List ℤ) → copy_at new r b ≡ Some u → u ≡ x = λ r u e.
-                    chosen (place == r) x u (copy_at old r b) (λ z f. same r z (ap (copy_at old r) t.1 ∙ f)) (sym (put.copies r b ∙ (rw t.0 refl)) ∙ e) in
-            each p v a ∙ sym (each q w c))
-        (λ t. h b p q v w (sym (put.copies p b ∙ (rw t.0 refl)) ∙ a) (sym (put.copies q b ∙ (rw t.0 refl)) ∙ c))
-        (eqb_tells k b)
+    (λ t. let each : (r : ℕ) (u : List ℤ) → copy_at new r b ≡ Some u → u ≡ x = λ r u e.
+    chosen (place == r) x u (copy_at old r b) (λ z f. same r z (ap (copy_at old r) t.1 ∙ f)) (sym (put.copies r b ∙ (rw t.0 refl)) ∙ e) in
+    each p v a ∙ sym (each q w c))
+    (λ t. h b p q v w (sym (put.copies p b ∙ (rw t.0 refl)) ∙ a) (sym (put.copies q b ∙ (rw t.0 refl)) ∙ c))
+    (eqb_tells k b)
 
 -- a buffer with room has a length
 room_len : (o : Option Buffer) (p : ℕ) → IsTrue (room_of o p) → (n : ℕ) × (len_of o ≡ Some n)
@@ -67,11 +67,11 @@ bool_cases false = inr refl
 pub agree_publishes : (old new : List (Option Buffer)) (place : ℕ) (needs : List Need) (log : List (Cell × ℤ)) → MayPublish old place needs → Publishes old new place needs log → Agree old → Agree new
 agree_publishes old new place needs log may made h b p q v w a c =
     ⊎_elim
-        (λ t. let size = sized old place b (may b t).room in
-            let x : List ℤ = version needs log b size.0 (copy_at old place b) in
-            sym (only (place == p) x v (sym (made.versions p b size.0 t size.1) ∙ a)) ∙ only (place == q) x w (sym (made.versions q b size.0 t size.1) ∙ c))
-        (λ t. h b p q v w (sym (made.others p b t) ∙ a) (sym (made.others q b t) ∙ c))
-        (bool_cases (renews needs b))
+    (λ t. let size = sized old place b (may b t).room in
+    let x : List ℤ = version needs log b size.0 (copy_at old place b) in
+    sym (only (place == p) x v (sym (made.versions p b size.0 t size.1) ∙ a)) ∙ only (place == q) x w (sym (made.versions q b size.0 t size.1) ∙ c))
+    (λ t. h b p q v w (sym (made.others p b t) ∙ a) (sym (made.others q b t) ∙ c))
+    (bool_cases (renews needs b))
 
 -- what follows from either outcome
 pub either_way : {T E : Type 0} (r : Result T E) {P Q G : Type 0} → OnOk r P → OnErr r Q → (P → G) → (Q → G) → G

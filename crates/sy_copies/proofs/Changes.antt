@@ -43,19 +43,19 @@ slot_at-with [] p q y e = rw e refl
 slot_at-with (s ∷ ss) p q y e =
     let new : (y.place == q) ≡ (p == q) = ap (λ n. n == q) e in
     ⊎_elim
-        (λ h. let old : (s.place == q) ≡ (p == q) = ap (λ n. n == q) h.1 in rw (h.0, new, old) (one_choice (p == q) (Some s) (Some y) (slot_at ss q)))
-        (λ h. rw h.0 (ap (λ (o : Option Slot). if s.place == q then Some s else o) (slot_at-with ss p q y e)
-            ∙ two_choices (s.place == q) (p == q) (Some s) (Some y) (slot_at ss q) (λ t. ne_eqb p q (λ f. h.1 (eqb-true s.place q t ∙ sym f)))))
-        (eqb_tells s.place p)
+    (λ h. let old : (s.place == q) ≡ (p == q) = ap (λ n. n == q) h.1 in rw (h.0, new, old) (one_choice (p == q) (Some s) (Some y) (slot_at ss q)))
+    (λ h. rw h.0 (ap (λ (o : Option Slot). if s.place == q then Some s else o) (slot_at-with ss p q y e)
+    ∙ two_choices (s.place == q) (p == q) (Some s) (Some y) (slot_at ss q) (λ t. ne_eqb p q (λ f. h.1 (eqb-true s.place q t ∙ sym f)))))
+    (eqb_tells s.place p)
 
 -- a slot that is found is of its place
 slot_of_place : (ss : List Slot) (p : ℕ) (s : Slot) → slot_at ss p ≡ Some s → s.place ≡ p
 slot_of_place [] p s h = absurd (let z : None ≡ Some s = h in cc)
 slot_of_place (x ∷ xs) p s h =
     ⊎_elim
-        (λ t. let same : Some x ≡ Some s = sym (rw t.0 refl) ∙ h in sym (ap (λ (y : Slot). y.place) (same_Some x s same)) ∙ t.1)
-        (λ t. slot_of_place xs p s ((rw t.0 refl) ∙ h))
-        (eqb_tells x.place p)
+    (λ t. let same : Some x ≡ Some s = sym (rw t.0 refl) ∙ h in sym (ap (λ (y : Slot). y.place) (same_Some x s same)) ∙ t.1)
+    (λ t. slot_of_place xs p s ((rw t.0 refl) ∙ h))
+    (eqb_tells x.place p)
 
 -- the slot of a place once each slot has changed
 slot_at-map : (f : Slot → Slot) → ((s : Slot) → (f s).place ≡ s.place) → (ss : List Slot) (p : ℕ) → slot_at (map f ss) p ≡ option_map f (slot_at ss p)
@@ -63,9 +63,9 @@ slot_at-map f keeps [] p = refl
 slot_at-map f keeps (s ∷ ss) p =
     let same : ((f s).place == p) ≡ (s.place == p) = ap (λ n. n == p) (keeps s) in
     ⊎_elim
-        (λ t. rw (same, t.0) refl)
-        (λ t. rw (same, t.0) (slot_at-map f keeps ss p))
-        (eqb_tells s.place p)
+    (λ t. rw (same, t.0) refl)
+    (λ t. rw (same, t.0) (slot_at-map f keeps ss p))
+    (eqb_tells s.place p)
 
 -- a test that holds of each slot and of a new one
 lengths-with : (len p : ℕ) (y : Slot) (ss : List Slot) → IsTrue (has_length len y) → IsTrue (list_all (has_length len) ss) → IsTrue (list_all (has_length len) (with_slot p y ss))
@@ -73,9 +73,9 @@ lengths-with len p y [] one all = both (has_length len y) true one refl
 lengths-with len p y (s ∷ ss) one all =
     let parts = split (has_length len s) (list_all (has_length len) ss) all in
     ⊎_elim
-        (λ t. rw t.0 (both (has_length len y) (list_all (has_length len) ss) one parts.1))
-        (λ t. rw t.0 (both (has_length len s) (list_all (has_length len) (with_slot p y ss)) parts.0 (lengths-with len p y ss one parts.1)))
-        (eqb_tells s.place p)
+    (λ t. rw t.0 (both (has_length len y) (list_all (has_length len) ss) one parts.1))
+    (λ t. rw t.0 (both (has_length len s) (list_all (has_length len) (with_slot p y ss)) parts.0 (lengths-with len p y ss one parts.1)))
+    (eqb_tells s.place p)
 
 -- a slot that is found has its length
 length_found : (len p : ℕ) (ss : List Slot) (s : Slot) → IsTrue (list_all (has_length len) ss) → slot_at ss p ≡ Some s → length s.values ≡ len
@@ -83,9 +83,9 @@ length_found len p [] s all h = absurd (let z : None ≡ Some s = h in cc)
 length_found len p (x ∷ xs) s all h =
     let parts = split (has_length len x) (list_all (has_length len) xs) all in
     ⊎_elim
-        (λ t. let same : Some x ≡ Some s = sym (rw t.0 refl) ∙ h in ap (λ (y : Slot). length y.values) (sym (same_Some x s same)) ∙ eqb-true (length x.values) len parts.0)
-        (λ t. length_found len p xs s parts.1 ((rw t.0 refl) ∙ h))
-        (eqb_tells x.place p)
+    (λ t. let same : Some x ≡ Some s = sym (rw t.0 refl) ∙ h in ap (λ (y : Slot). length y.values) (sym (same_Some x s same)) ∙ eqb-true (length x.values) len parts.0)
+    (λ t. length_found len p xs s parts.1 ((rw t.0 refl) ∙ h))
+    (eqb_tells x.place p)
 
 lengths-map : (len : ℕ) (f : Slot → Slot) → ((s : Slot) → length (f s).values ≡ length s.values) → (ss : List Slot) → IsTrue (list_all (has_length len) ss) → IsTrue (list_all (has_length len) (map f ss))
 lengths-map len f keeps [] all = all
@@ -164,29 +164,29 @@ copy_with_stale : (x : Buffer) (place p : ℕ) → slot_at x.slots place ≡ Non
 unfolding copy_in with_stale
 copy_with_stale x place p h =
     ap (λ o. own_or o x.zeros) (slot_at-with x.slots place p (stale_slot place x.len) refl)
-        ∙ own_chosen (place == p) (stale_slot place x.len) (slot_at x.slots p) x.zeros
-        ∙ ⊎_elim
-            (λ t. let none : slot_at x.slots p ≡ None = ap (slot_at x.slots) (sym t.1) ∙ h in rw (t.0, none) refl)
-            (λ t. rw t.0 refl)
-            (eqb_tells place p)
+    ∙ own_chosen (place == p) (stale_slot place x.len) (slot_at x.slots p) x.zeros
+    ∙ ⊎_elim
+    (λ t. let none : slot_at x.slots p ≡ None = ap (slot_at x.slots) (sym t.1) ∙ h in rw (t.0, none) refl)
+    (λ t. rw t.0 refl)
+    (eqb_tells place p)
 
 pub copy_reserved : (x : Buffer) (place p : ℕ) → copy_in (reserved place x) p ≡ copy_in x p
 copy_reserved x place p =
     ⊎_elim
-        (λ h. ap (λ y. copy_in y p) (reserved_there x place h))
-        (λ h. ap (λ y. copy_in y p) (reserved_new x place h) ∙ copy_with_stale x place p (no_slot (slot_at x.slots place) h))
-        (bool_cases (has_slot x.slots place))
+    (λ h. ap (λ y. copy_in y p) (reserved_there x place h))
+    (λ h. ap (λ y. copy_in y p) (reserved_new x place h) ∙ copy_with_stale x place p (no_slot (slot_at x.slots place) h))
+    (bool_cases (has_slot x.slots place))
 
 pub room_reserved : (x : Buffer) (place p : ℕ) → has_slot (reserved place x).slots p ≡ (if place == p then true else has_slot x.slots p)
 unfolding with_stale
 room_reserved x place p =
     ⊎_elim
-        (λ h. ap (λ (y : Buffer). has_slot y.slots p) (reserved_there x place h)
-            ∙ ⊎_elim (λ t. rw t.0 (ap (has_slot x.slots) (sym t.1) ∙ h)) (λ t. rw t.0 refl) (eqb_tells place p))
-        (λ h. ap (λ (y : Buffer). has_slot y.slots p) (reserved_new x place h)
-            ∙ ap is_some (slot_at-with x.slots place p (stale_slot place x.len) refl)
-            ∙ room_chosen (place == p) (stale_slot place x.len) (slot_at x.slots p))
-        (bool_cases (has_slot x.slots place))
+    (λ h. ap (λ (y : Buffer). has_slot y.slots p) (reserved_there x place h)
+    ∙ ⊎_elim (λ t. rw t.0 (ap (has_slot x.slots) (sym t.1) ∙ h)) (λ t. rw t.0 refl) (eqb_tells place p))
+    (λ h. ap (λ (y : Buffer). has_slot y.slots p) (reserved_new x place h)
+    ∙ ap is_some (slot_at-with x.slots place p (stale_slot place x.len) refl)
+    ∙ room_chosen (place == p) (stale_slot place x.len) (slot_at x.slots p))
+    (bool_cases (has_slot x.slots place))
 
 pub len_reserved : (x : Buffer) (place : ℕ) → (reserved place x).len ≡ x.len
 unfolding reserved
@@ -196,9 +196,9 @@ pub sound_reserved : (x : Buffer) (place : ℕ) → IsSound (Some x) → IsSound
 unfolding reserved
 sound_reserved x place h =
     ⊎_elim
-        (λ t. rw t h)
-        (λ t. rw t (h.0, lengths-with x.len place (stale_slot place x.len) x.slots (eq-eqb (length (zeros x.len)) x.len (length-replicate x.len (pos 0))) h.1))
-        (bool_cases (has_slot x.slots place))
+    (λ t. rw t h)
+    (λ t. rw t (h.0, lengths-with x.len place (stale_slot place x.len) x.slots (eq-eqb (length (zeros x.len)) x.len (length-replicate x.len (pos 0))) h.1))
+    (bool_cases (has_slot x.slots place))
 
 after_place : (p : ℕ) (replaced : Bool) (needs : List Need) (log : List (Cell × ℤ)) (b : ℕ) (s : Slot) → (slot_after p replaced needs log b s).place ≡ s.place
 unfolding slot_after renewed_slot
@@ -213,9 +213,9 @@ after_length : (p : ℕ) (replaced : Bool) (needs : List Need) (log : List (Cell
 unfolding slot_after renewed_slot cells_after
 after_length p replaced needs log b s =
     ⊎_elim
-        (λ t. rw t.0 (length-each_from (cell_after needs log b) 0 (start_of (replaced || not s.current) (length s.values) s.values) ∙ length_start (replaced || not s.current) s.values))
-        (λ t. rw t.0 refl)
-        (eqb_tells s.place p)
+    (λ t. rw t.0 (length-each_from (cell_after needs log b) 0 (start_of (replaced || not s.current) (length s.values) s.values) ∙ length_start (replaced || not s.current) s.values))
+    (λ t. rw t.0 refl)
+    (eqb_tells s.place p)
 
 pub len_published : (x : Buffer) (place : ℕ) (needs : List Need) (log : List (Cell × ℤ)) (b : ℕ) → (published place needs log b x).len ≡ x.len
 unfolding published
@@ -269,10 +269,10 @@ copy_published_here x place needs log b sound room there =
     let same : length s.values ≡ x.len = length_found x.len place x.slots s sound.1 found.1 in
     let shown : copy_in x place ≡ own_or (Some s) x.zeros = ap (λ o. own_or o x.zeros) found.1 in
     ap (λ o. own_or o None) (slot_at-map f (after_place place (replaces needs b x.len) needs log b) x.slots place ∙ ap (option_map f) found.1)
-        ∙ (rw (eq-eqb s.place place here)
-            (ap (λ (l : List ℤ). Some (cells_after needs log b l))
-                (starts (replaces needs b x.len) s x.len x.zeros same sound.0 (λ r. ap is_some (sym shown) ∙ there r)
-                    ∙ ap (λ o. start_of (replaces needs b x.len) x.len (unwrap_or o [])) (sym shown))))
+    ∙ (rw (eq-eqb s.place place here)
+    (ap (λ (l : List ℤ). Some (cells_after needs log b l))
+    (starts (replaces needs b x.len) s x.len x.zeros same sound.0 (λ r. ap is_some (sym shown) ∙ there r)
+    ∙ ap (λ o. start_of (replaces needs b x.len) x.len (unwrap_or o [])) (sym shown))))
 
 -- and at no other
 copy_published_there : (x : Buffer) (place : ℕ) (needs : List Need) (log : List (Cell × ℤ)) (b p : ℕ) → (place ≡ p → ⊥) → copy_in (published place needs log b x) p ≡ None
@@ -280,11 +280,11 @@ unfolding copy_in published
 copy_published_there x place needs log b p other =
     let f : Slot → Slot = slot_after place (replaces needs b x.len) needs log b in
     ap (λ o. own_or o None) (slot_at-map f (after_place place (replaces needs b x.len) needs log b) x.slots p)
-        ∙ stale_slots place (replaces needs b x.len) needs log b p (slot_at x.slots p) (λ s. slot_of_place x.slots p s) other
+    ∙ stale_slots place (replaces needs b x.len) needs log b p (slot_at x.slots p) (λ s. slot_of_place x.slots p s) other
 
 pub copy_published : (x : Buffer) (place : ℕ) (needs : List Need) (log : List (Cell × ℤ)) (b p : ℕ) → IsSound (Some x) → IsTrue (has_slot x.slots place) → (replaces needs b x.len ≡ false → is_some (copy_in x place) ≡ true) → copy_in (published place needs log b x) p ≡ (if place == p then Some (version needs log b x.len (copy_in x place)) else None)
 copy_published x place needs log b p sound room there =
     ⊎_elim
-        (λ t. rw (t.0, ← t.1) (copy_published_here x place needs log b sound room there))
-        (λ t. rw t.0 (copy_published_there x place needs log b p t.1))
-        (eqb_tells place p)
+    (λ t. rw (t.0, ← t.1) (copy_published_here x place needs log b sound room there))
+    (λ t. rw t.0 (copy_published_there x place needs log b p t.1))
+    (eqb_tells place p)

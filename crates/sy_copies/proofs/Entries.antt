@@ -34,17 +34,17 @@ set_there (x ∷ xs) (suc k) (suc b) y n = set_there xs k b y (λ e. n (ap suc e
 one_set : {A : Type 0} (see : Option Buffer → A) (xs : List (Option Buffer)) (k b : ℕ) (y : Option Buffer) (r : A) → k < length xs → (k ≡ b → see y ≡ r) → ((k ≡ b → ⊥) → see (buffer_at xs b) ≡ r) → see (buffer_at (set xs k y) b) ≡ r
 one_set see xs k b y r h here there =
     ⊎_elim
-        (λ t. ap see (ap (buffer_at (set xs k y)) (sym t.1) ∙ set_here xs k y h) ∙ here t.1)
-        (λ t. ap see (set_there xs k b y t.1) ∙ there t.1)
-        (eqb_tells k b)
+    (λ t. ap see (ap (buffer_at (set xs k y)) (sym t.1) ∙ set_here xs k y h) ∙ here t.1)
+    (λ t. ap see (set_there xs k b y t.1) ∙ there t.1)
+    (eqb_tells k b)
 
 -- a fact of each buffer where one buffer was written
 fact_set : (P : Option Buffer → Type 0) (xs : List (Option Buffer)) (k : ℕ) (y : Option Buffer) → k < length xs → P y → ((b : ℕ) → P (buffer_at xs b)) → (b : ℕ) → P (buffer_at (set xs k y) b)
 fact_set P xs k y h new old b =
     ⊎_elim
-        (λ t. subst P (sym (ap (buffer_at (set xs k y)) (sym t.1) ∙ set_here xs k y h)) new)
-        (λ t. subst P (sym (set_there xs k b y t.1)) (old b))
-        (eqb_tells k b)
+    (λ t. subst P (sym (ap (buffer_at (set xs k y)) (sym t.1) ∙ set_here xs k y h)) new)
+    (λ t. subst P (sym (set_there xs k b y t.1)) (old b))
+    (eqb_tells k b)
 
 push_here : (xs : List (Option Buffer)) (y : Option Buffer) → buffer_at (xs ++ y ∷ []) (length xs) ≡ y
 push_here [] y = refl
@@ -59,16 +59,16 @@ push_there (x ∷ xs) (suc b) y n = push_there xs b y (λ e. n (ap suc e))
 one_pushed : {A : Type 0} (see : Option Buffer → A) (xs : List (Option Buffer)) (b : ℕ) (y : Option Buffer) (r : A) → (length xs ≡ b → see y ≡ r) → ((length xs ≡ b → ⊥) → see (buffer_at xs b) ≡ r) → see (buffer_at (xs ++ y ∷ []) b) ≡ r
 one_pushed see xs b y r here there =
     ⊎_elim
-        (λ t. ap see (ap (buffer_at (xs ++ y ∷ [])) (sym t.1) ∙ push_here xs y) ∙ here t.1)
-        (λ t. ap see (push_there xs b y t.1) ∙ there t.1)
-        (eqb_tells (length xs) b)
+    (λ t. ap see (ap (buffer_at (xs ++ y ∷ [])) (sym t.1) ∙ push_here xs y) ∙ here t.1)
+    (λ t. ap see (push_there xs b y t.1) ∙ there t.1)
+    (eqb_tells (length xs) b)
 
 fact_pushed : (P : Option Buffer → Type 0) (xs : List (Option Buffer)) (y : Option Buffer) → P y → ((b : ℕ) → P (buffer_at xs b)) → (b : ℕ) → P (buffer_at (xs ++ y ∷ []) b)
 fact_pushed P xs y new old b =
     ⊎_elim
-        (λ t. subst P (sym (ap (buffer_at (xs ++ y ∷ [])) (sym t.1) ∙ push_here xs y)) new)
-        (λ t. subst P (sym (push_there xs b y t.1)) (old b))
-        (eqb_tells (length xs) b)
+    (λ t. subst P (sym (ap (buffer_at (xs ++ y ∷ [])) (sym t.1) ∙ push_here xs y)) new)
+    (λ t. subst P (sym (push_there xs b y t.1)) (old b))
+    (eqb_tells (length xs) b)
 
 buffer_at-each : (f : ℕ → Option Buffer → Option Buffer) → ((i : ℕ) → f i None ≡ None) → (k : ℕ) (xs : List (Option Buffer)) (b : ℕ) → buffer_at (each_from f k xs) b ≡ f (k + b) (buffer_at xs b)
 buffer_at-each f none k [] b = sym (none (k + b))
@@ -97,20 +97,21 @@ installs old place k v was is sized read e sound =
     let x : Buffer = r.0 in
     let there : buffer_at old k ≡ Some x = r.2 in
     let new : is ≡ Some (installed place v x) = e ∙ ap (option_map (installed place v)) (read_there old k was r.1 read ∙ there) in
-    let at : (b : ℕ) → k ≡ b → buffer_at old b ≡ Some x = λ b t. ap (buffer_at old) (sym t) ∙ there in
-    (record {
-      made = length-set old k is;
-      lens = λ b. one_set len_of old k b is (len_of (buffer_at old b)) r.1
-          (λ t. ap len_of new ∙ (rw (at b t) (ap Some (len_installed x place v))))
-          (λ n. refl);
-      copies = λ p b. one_set (λ o. copy_of o p) old k b is (if k == b && place == p then Some v else copy_of (buffer_at old b) p) r.1
-          (λ t. ap (λ o. copy_of o p) new ∙ (rw (eq-eqb k b t, at b t) (copy_installed x place p v)))
-          (λ n. rw (ne_eqb k b n) refl);
-      rooms = λ p b. one_set (λ o. room_of o p) old k b is (if k == b && place == p then true else room_of (buffer_at old b) p) r.1
-          (λ t. ap (λ o. room_of o p) new ∙ (rw (eq-eqb k b t, at b t) (room_installed x place p v)))
-          (λ n. rw (ne_eqb k b n) refl)
-    },
-    fact_set IsSound old k is r.1 (subst IsSound (sym new) (sound_installed x place v (sym r.3) (subst IsSound there (sound k)))) sound)
+    let at : (b : ℕ) → k ≡ b → buffer_at old b ≡ Some x = λ b t. ap (buffer_at old) (sym t) ∙ there in (
+      record {
+        made = length-set old k is;
+        lens = λ b. one_set len_of old k b is (len_of (buffer_at old b)) r.1
+            (λ t. ap len_of new ∙ (rw (at b t) (ap Some (len_installed x place v))))
+            (λ n. refl);
+        copies = λ p b. one_set (λ o. copy_of o p) old k b is (if k == b && place == p then Some v else copy_of (buffer_at old b) p) r.1
+            (λ t. ap (λ o. copy_of o p) new ∙ (rw (eq-eqb k b t, at b t) (copy_installed x place p v)))
+            (λ n. rw (ne_eqb k b n) refl);
+        rooms = λ p b. one_set (λ o. room_of o p) old k b is (if k == b && place == p then true else room_of (buffer_at old b) p) r.1
+            (λ t. ap (λ o. room_of o p) new ∙ (rw (eq-eqb k b t, at b t) (room_installed x place p v)))
+            (λ n. rw (ne_eqb k b n) refl);
+      },
+      fact_set IsSound old k is r.1 (subst IsSound (sym new) (sound_installed x place v (sym r.3) (subst IsSound there (sound k)))) sound,
+    )
 
 bool_cases : (c : Bool) → (c ≡ true) ⊎ (c ≡ false)
 bool_cases true = inl refl
@@ -132,37 +133,39 @@ reserves old place k was is sized read e sound =
     let x : Buffer = r.0 in
     let there : buffer_at old k ≡ Some x = r.2 in
     let new : is ≡ Some (reserved place x) = e ∙ ap (option_map (reserved place)) (read_there old k was r.1 read ∙ there) in
-    let at : (b : ℕ) → k ≡ b → buffer_at old b ≡ Some x = λ b t. ap (buffer_at old) (sym t) ∙ there in
-    (record {
-      made = length-set old k is;
-      lens = λ b. one_set len_of old k b is (len_of (buffer_at old b)) r.1
-          (λ t. ap len_of new ∙ (rw (at b t) (ap Some (len_reserved x place))))
-          (λ n. refl);
-      copies = λ p b. one_set (λ o. copy_of o p) old k b is (copy_of (buffer_at old b) p) r.1
-          (λ t. ap (λ o. copy_of o p) new ∙ (rw (at b t) (copy_reserved x place p)))
-          (λ n. refl);
-      rooms = λ p b. one_set (λ o. room_of o p) old k b is (if k == b && place == p then true else room_of (buffer_at old b) p) r.1
-          (λ t. ap (λ o. room_of o p) new ∙ (rw (eq-eqb k b t, at b t) (room_reserved x place p)))
-          (λ n. rw (ne_eqb k b n) refl)
-    },
-    fact_set IsSound old k is r.1 (subst IsSound (sym new) (sound_reserved x place (subst IsSound there (sound k)))) sound)
+    let at : (b : ℕ) → k ≡ b → buffer_at old b ≡ Some x = λ b t. ap (buffer_at old) (sym t) ∙ there in (
+      record {
+        made = length-set old k is;
+        lens = λ b. one_set len_of old k b is (len_of (buffer_at old b)) r.1
+            (λ t. ap len_of new ∙ (rw (at b t) (ap Some (len_reserved x place))))
+            (λ n. refl);
+        copies = λ p b. one_set (λ o. copy_of o p) old k b is (copy_of (buffer_at old b) p) r.1
+            (λ t. ap (λ o. copy_of o p) new ∙ (rw (at b t) (copy_reserved x place p)))
+            (λ n. refl);
+        rooms = λ p b. one_set (λ o. room_of o p) old k b is (if k == b && place == p then true else room_of (buffer_at old b) p) r.1
+            (λ t. ap (λ o. room_of o p) new ∙ (rw (eq-eqb k b t, at b t) (room_reserved x place p)))
+            (λ n. rw (ne_eqb k b n) refl);
+      },
+      fact_set IsSound old k is r.1 (subst IsSound (sym new) (sound_reserved x place (subst IsSound there (sound k)))) sound,
+    )
 
 pub drops : (old : List (Option Buffer)) (k : ℕ) (is : Option Buffer) → k < length old → is ≡ None → Sound old → Drops old (set old k is) k × Sound (set old k is)
 unfolding copy_at len_at has_room
-drops old k is h e sound =
-    (record {
-      made = length-set old k is;
-      lens = λ b. one_set len_of old k b is (if k == b then None else len_of (buffer_at old b)) h
-          (λ t. ap len_of e ∙ (rw (eq-eqb k b t) refl)) (λ n. rw (ne_eqb k b n) refl);
-      copies = λ p b. one_set (λ o. copy_of o p) old k b is (if k == b then None else copy_of (buffer_at old b) p) h
-          (λ t. ap (λ o. copy_of o p) e ∙ (rw (eq-eqb k b t) refl)) (λ n. rw (ne_eqb k b n) refl);
-      rooms = λ p b. one_set (λ o. room_of o p) old k b is (if k == b then false else room_of (buffer_at old b) p) h
-          (λ t. ap (λ o. room_of o p) e ∙ (rw (eq-eqb k b t) refl)) (λ n. rw (ne_eqb k b n) refl)
-    },
-    fact_set IsSound old k is h (subst IsSound (sym e) tt) sound)
+drops old k is h e sound = (
+  record {
+    made = length-set old k is;
+    lens = λ b. one_set len_of old k b is (if k == b then None else len_of (buffer_at old b)) h
+        (λ t. ap len_of e ∙ (rw (eq-eqb k b t) refl)) (λ n. rw (ne_eqb k b n) refl);
+    copies = λ p b. one_set (λ o. copy_of o p) old k b is (if k == b then None else copy_of (buffer_at old b) p) h
+        (λ t. ap (λ o. copy_of o p) e ∙ (rw (eq-eqb k b t) refl)) (λ n. rw (ne_eqb k b n) refl);
+    rooms = λ p b. one_set (λ o. room_of o p) old k b is (if k == b then false else room_of (buffer_at old b) p) h
+        (λ t. ap (λ o. room_of o p) e ∙ (rw (eq-eqb k b t) refl)) (λ n. rw (ne_eqb k b n) refl);
+  },
+  fact_set IsSound old k is h (subst IsSound (sym e) tt) sound,
+)
 
 -- a number that no buffer has
-pub past : (xs : List (Option Buffer)) (k : ℕ) → length xs ≤ k → buffer_at xs k ≡ None
+past : (xs : List (Option Buffer)) (k : ℕ) → length xs ≤ k → buffer_at xs k ≡ None
 past [] k h = refl
 past (x ∷ xs) zero h = absurd (omega arith)
 past (x ∷ xs) (suc k) h = past xs k (omega arith)
@@ -174,27 +177,28 @@ nothing see old k b z h e =
 pub drops_past : (old : List (Option Buffer)) (k : ℕ) → length old ≤ k → Drops old old k
 unfolding copy_at len_at has_room
 drops_past old k h = record {
-    made = refl;
-    lens = λ b. nothing len_of old k b None h refl;
-    copies = λ p b. nothing (λ o. copy_of o p) old k b None h refl;
-    rooms = λ p b. nothing (λ o. room_of o p) old k b false h refl
-  }
+  made = refl;
+  lens = λ b. nothing len_of old k b None h refl;
+  copies = λ p b. nothing (λ o. copy_of o p) old k b None h refl;
+  rooms = λ p b. nothing (λ o. room_of o p) old k b false h refl;
+}
 
 pub makes : (old : List (Option Buffer)) (len : ℕ) (init : Option (List ℤ)) → ((v : List ℤ) → init ≡ Some v → length v ≡ len) → Sound old → Makes old (old ++ Some (first len init) ∷ []) len init (length old) × Sound (old ++ Some (first len init) ∷ [])
 unfolding copy_at len_at has_room
 makes old len init fits sound =
-    let new : Option Buffer = Some (first len init) in
-    (record {
-      number = refl;
-      made = length_push old new;
-      lens = λ b. one_pushed len_of old b new (if length old == b then Some len else len_of (buffer_at old b))
-          (λ t. rw (eq-eqb (length old) b t) (ap Some (len_first len init))) (λ n. rw (ne_eqb (length old) b n) refl);
-      copies = λ p b. one_pushed (λ o. copy_of o p) old b new (if length old == b then first_copy len init p else copy_of (buffer_at old b) p)
-          (λ t. rw (eq-eqb (length old) b t) (copy_first len init p)) (λ n. rw (ne_eqb (length old) b n) refl);
-      rooms = λ p b. one_pushed (λ o. room_of o p) old b new (if length old == b then first_room init p else room_of (buffer_at old b) p)
-          (λ t. rw (eq-eqb (length old) b t) (room_first len init p)) (λ n. rw (ne_eqb (length old) b n) refl)
-    },
-    fact_pushed IsSound old new (sound_first len init fits) sound)
+    let new : Option Buffer = Some (first len init) in (
+      record {
+        number = refl;
+        made = length_push old new;
+        lens = λ b. one_pushed len_of old b new (if length old == b then Some len else len_of (buffer_at old b))
+            (λ t. rw (eq-eqb (length old) b t) (ap Some (len_first len init))) (λ n. rw (ne_eqb (length old) b n) refl);
+        copies = λ p b. one_pushed (λ o. copy_of o p) old b new (if length old == b then first_copy len init p else copy_of (buffer_at old b) p)
+            (λ t. rw (eq-eqb (length old) b t) (copy_first len init p)) (λ n. rw (ne_eqb (length old) b n) refl);
+        rooms = λ p b. one_pushed (λ o. room_of o p) old b new (if length old == b then first_room init p else room_of (buffer_at old b) p)
+            (λ t. rw (eq-eqb (length old) b t) (room_first len init p)) (λ n. rw (ne_eqb (length old) b n) refl);
+      },
+      fact_pushed IsSound old new (sound_first len init fits) sound,
+    )
 
 publish_none : (place : ℕ) (needs : List Need) (log : List (Cell × ℤ)) (i : ℕ) → publish_at place needs log needs i None ≡ None
 unfolding publish_at
@@ -203,7 +207,7 @@ publish_none place needs log i = either_same (renews needs i) None
 published_at : (old : List (Option Buffer)) (place : ℕ) (needs : List Need) (log : List (Cell × ℤ)) (b : ℕ) → buffer_at (each_from (publish_at place needs log needs) 0 old) b ≡ publish_at place needs log needs b (buffer_at old b)
 published_at old place needs log b =
     buffer_at-each (publish_at place needs log needs) (publish_none place needs log) 0 old b
-        ∙ ap (λ n. publish_at place needs log needs n (buffer_at old b)) (let e : 0 + b ≡ b = omega arith in e)
+    ∙ ap (λ n. publish_at place needs log needs n (buffer_at old b)) (let e : 0 + b ≡ b = omega arith in e)
 
 published_yes : (place : ℕ) (needs : List Need) (log : List (Cell × ℤ)) (b : ℕ) (x : Option Buffer) → renews needs b ≡ true → publish_at place needs log needs b x ≡ option_map (published place needs log b) x
 unfolding publish_at
@@ -217,10 +221,10 @@ published_no place needs log b x h = rw h refl
 kept_seen : {A : Type 0} (see : Option Buffer → A) (old : List (Option Buffer)) (place : ℕ) (needs : List Need) (log : List (Cell × ℤ)) (b : ℕ) → ((x : Option Buffer) → see (option_map (published place needs log b) x) ≡ see x) → see (buffer_at (each_from (publish_at place needs log needs) 0 old) b) ≡ see (buffer_at old b)
 kept_seen see old place needs log b keeps =
     ap see (published_at old place needs log b)
-        ∙ ⊎_elim
-            (λ h. ap see (published_yes place needs log b (buffer_at old b) h) ∙ keeps (buffer_at old b))
-            (λ h. ap see (published_no place needs log b (buffer_at old b) h))
-            (bool_cases (renews needs b))
+    ∙ ⊎_elim
+    (λ h. ap see (published_yes place needs log b (buffer_at old b) h) ∙ keeps (buffer_at old b))
+    (λ h. ap see (published_no place needs log b (buffer_at old b) h))
+    (bool_cases (renews needs b))
 
 len_kept : (place : ℕ) (needs : List Need) (log : List (Cell × ℤ)) (b : ℕ) (x : Option Buffer) → len_of (option_map (published place needs log b) x) ≡ len_of x
 len_kept place needs log b None = refl
@@ -236,27 +240,28 @@ sound_kept place needs log b (Some x) h = sound_published x place needs log b h
 
 pub publishes : (old : List (Option Buffer)) (place : ℕ) (needs : List Need) (log : List (Cell × ℤ)) → MayPublish old place needs → Sound old → Publishes old (each_from (publish_at place needs log needs) 0 old) place needs log × Sound (each_from (publish_at place needs log needs) 0 old)
 unfolding copy_at len_at has_room
-publishes old place needs log may sound =
-    (record {
-      made = length-each_from (publish_at place needs log needs) 0 old;
-      lens = λ b. kept_seen len_of old place needs log b (len_kept place needs log b);
-      versions = λ p b len renewed sized.
-          let r = with_length old b len sized in
-          let x : Buffer = r.0 in
-          let room : IsTrue (room_of (Some x) place) = subst (λ o. IsTrue (room_of o place)) r.2 (may b renewed).room in
-          let there : replaces needs b x.len ≡ false → is_some (copy_in x place) ≡ true = λ h. subst (λ o. IsSome (copy_of o place)) r.2 ((may b renewed).current len sized (ap (replaces needs b) (sym r.3) ∙ h)) in
-          ap (λ o. copy_of o p) (published_at old place needs log b ∙ published_yes place needs log b (buffer_at old b) renewed ∙ ap (option_map (published place needs log b)) r.2)
-              ∙ copy_published x place needs log b p (subst IsSound r.2 (sound b)) room there
-              ∙ ap (λ n. if place == p then Some (version needs log b n (copy_in x place)) else None) r.3
-              ∙ ap (λ o. if place == p then Some (version needs log b len (copy_of o place)) else None) (sym r.2);
-      others = λ p b h. ap (λ o. copy_of o p) (published_at old place needs log b ∙ published_no place needs log b (buffer_at old b) h);
-      rooms = λ p b. kept_seen (λ o. room_of o p) old place needs log b (room_kept place needs log b p)
-    },
-    λ b. subst IsSound (sym (published_at old place needs log b))
-        (⊎_elim
-            (λ h. subst IsSound (sym (published_yes place needs log b (buffer_at old b) h)) (sound_kept place needs log b (buffer_at old b) (sound b)))
-            (λ h. subst IsSound (sym (published_no place needs log b (buffer_at old b) h)) (sound b))
-            (bool_cases (renews needs b))))
+publishes old place needs log may sound = (
+  record {
+    made = length-each_from (publish_at place needs log needs) 0 old;
+    lens = λ b. kept_seen len_of old place needs log b (len_kept place needs log b);
+    versions = λ p b len renewed sized.
+        let r = with_length old b len sized in
+        let x : Buffer = r.0 in
+        let room : IsTrue (room_of (Some x) place) = subst (λ o. IsTrue (room_of o place)) r.2 (may b renewed).room in
+        let there : replaces needs b x.len ≡ false → is_some (copy_in x place) ≡ true = λ h. subst (λ o. IsSome (copy_of o place)) r.2 ((may b renewed).current len sized (ap (replaces needs b) (sym r.3) ∙ h)) in
+        ap (λ o. copy_of o p) (published_at old place needs log b ∙ published_yes place needs log b (buffer_at old b) renewed ∙ ap (option_map (published place needs log b)) r.2)
+        ∙ copy_published x place needs log b p (subst IsSound r.2 (sound b)) room there
+        ∙ ap (λ n. if place == p then Some (version needs log b n (copy_in x place)) else None) r.3
+        ∙ ap (λ o. if place == p then Some (version needs log b len (copy_of o place)) else None) (sym r.2);
+    others = λ p b h. ap (λ o. copy_of o p) (published_at old place needs log b ∙ published_no place needs log b (buffer_at old b) h);
+    rooms = λ p b. kept_seen (λ o. room_of o p) old place needs log b (room_kept place needs log b p);
+  },
+  λ b. subst IsSound (sym (published_at old place needs log b))
+      (⊎_elim
+      (λ h. subst IsSound (sym (published_yes place needs log b (buffer_at old b) h)) (sound_kept place needs log b (buffer_at old b) (sound b)))
+      (λ h. subst IsSound (sym (published_no place needs log b (buffer_at old b) h)) (sound b))
+      (bool_cases (renews needs b))),
+)
 
 -- a write of what stands there changes nothing
 pub kept_set : (xs : List (Option Buffer)) (k : ℕ) (was is : Option Buffer) → was ≡ get_or xs k was → is ≡ was → set xs k is ≡ xs
@@ -268,3 +273,10 @@ within xs k h = let size = some_is (len_at xs k) h in (with_length xs k size.0 s
 pub fitting : (len : ℕ) (init : Option (List ℤ)) → IfSome init (λ v. length v ≡ len) → (v : List ℤ) → init ≡ Some v → length v ≡ len
 fitting len None h v e = absurd (let z : None ≡ Some v = e in cc)
 fitting len (Some x) h v e = ap length (sym (same_Some x v e)) ∙ h
+
+-- what is seen of a buffer that is not there, and of one that is read
+pub see_past : {A : Type 0} (see : Option Buffer → A) (old now : List (Option Buffer)) (k : ℕ) → old ≡ now → length old ≤ k → see None ≡ see (buffer_at now k)
+see_past see old now k e h = ap see (sym (past old k h) ∙ ap (λ l. buffer_at l k) e)
+
+pub see_read : {A : Type 0} (see : Option Buffer → A) (old now : List (Option Buffer)) (k : ℕ) (y : Option Buffer) → old ≡ now → k < length old → y ≡ get_or old k y → see y ≡ see (buffer_at now k)
+see_read see old now k y e h read = ap see (read_there old k y h read ∙ ap (λ l. buffer_at l k) e)

@@ -7,14 +7,14 @@ pub each_from-agree : {A B : Type 0} (f g : ℕ → A → B) (k : ℕ) (xs : Lis
 each_from-agree f g k [] h = refl
 each_from-agree f g k (x ∷ xs) h =
     ap (λ y. y ∷ each_from f (suc k) xs) (h k x (omega arith) (omega arith))
-        ∙ ap (λ l. g k x ∷ l) (each_from-agree f g (suc k) xs (λ i y a b. h i y (omega arith) (omega arith)))
+    ∙ ap (λ l. g k x ∷ l) (each_from-agree f g (suc k) xs (λ i y a b. h i y (omega arith) (omega arith)))
 
 -- a function that keeps each member within the list
 pub each_from-kept : {A : Type 0} (f : ℕ → A → A) (k : ℕ) (xs : List A) → ((i : ℕ) (x : A) → k ≤ i → i < k + length xs → f i x ≡ x) → each_from f k xs ≡ xs
 each_from-kept f k [] h = refl
 each_from-kept f k (x ∷ xs) h =
     ap (λ y. y ∷ each_from f (suc k) xs) (h k x (omega arith) (omega arith))
-        ∙ ap (λ l. x ∷ l) (each_from-kept f (suc k) xs (λ i y a b. h i y (omega arith) (omega arith)))
+    ∙ ap (λ l. x ∷ l) (each_from-kept f (suc k) xs (λ i y a b. h i y (omega arith) (omega arith)))
 
 -- one function after another
 pub each_from-twice : {A : Type 0} (f g h : ℕ → A → A) → ((i : ℕ) (x : A) → g i (f i x) ≡ h i x) → (k : ℕ) (xs : List A) → each_from g k (each_from f k xs) ≡ each_from h k xs
@@ -44,7 +44,7 @@ pub each_from-all : {A : Type 0} (f : ℕ → A → A) (y : A) (k : ℕ) (xs : L
 each_from-all f y k [] h = refl
 each_from-all f y k (x ∷ xs) h =
     ap (λ z. z ∷ each_from f (suc k) xs) (h k x (omega arith) (omega arith))
-        ∙ ap (λ l. y ∷ l) (each_from-all f y (suc k) xs (λ i z a b. h i z (omega arith) (omega arith)))
+    ∙ ap (λ l. y ∷ l) (each_from-all f y (suc k) xs (λ i z a b. h i z (omega arith) (omega arith)))
 
 -- two functions that agree at the only member of a list
 pub each_from-replicate : {A B : Type 0} (f g : ℕ → A → B) (y : A) → ((i : ℕ) → f i y ≡ g i y) → (k n : ℕ) → each_from f k (replicate n y) ≡ each_from g k (replicate n y)
@@ -58,8 +58,8 @@ each_from-one f k j [] was is h read e keeps = absurd (omega arith)
 each_from-one f k zero (x ∷ xs) was is h read e keeps =
     let here : k + 0 ≡ k = omega arith in
     ap (λ z. z ∷ xs) (e ∙ ap (f (k + 0)) read ∙ ap (λ n. f n x) here)
-        ∙ ap (λ l. f k x ∷ l) (sym (each_from-kept f (suc k) xs (λ i z a b. keeps i z (λ t. omega arith))))
+    ∙ ap (λ l. f k x ∷ l) (sym (each_from-kept f (suc k) xs (λ i z a b. keeps i z (λ t. omega arith))))
 each_from-one f k (suc j) (x ∷ xs) was is h read e keeps =
     let here : suc k + j ≡ k + suc j = omega arith in
     ap (λ l. x ∷ l) (each_from-one f (suc k) j xs was is (omega arith) read (e ∙ ap (λ n. f n was) (sym here)) (λ i z n. keeps i z (λ t. n (t ∙ sym here))))
-        ∙ ap (λ z. z ∷ each_from f (suc k) xs) (sym (keeps k x (λ t. omega arith)))
+    ∙ ap (λ z. z ∷ each_from f (suc k) xs) (sym (keeps k x (λ t. omega arith)))

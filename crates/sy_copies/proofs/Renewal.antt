@@ -105,9 +105,9 @@ unfolding put_all_at put_at
 put_more needs w ws b cells h =
     let new : is_logged ws w.0 ≡ false = grind arith in
     each_from-twice (put_at needs w.0 w.1 b) (put_all_at needs ws b) (put_all_at needs (w ∷ ws) b)
-        (λ i v. choose (is_written needs b i) (same_cell w.0 (cell.Buffer b i)) (logged ws (cell.Buffer b i)) w.1 v
-            (λ e. unlogged ws (cell.Buffer b i) (ap (is_logged ws) (sym (same_is w.0 (cell.Buffer b i) e)) ∙ new)))
-        0 cells
+    (λ i v. choose (is_written needs b i) (same_cell w.0 (cell.Buffer b i)) (logged ws (cell.Buffer b i)) w.1 v
+    (λ e. unlogged ws (cell.Buffer b i) (ap (is_logged ws) (sym (same_is w.0 (cell.Buffer b i) e)) ∙ new)))
+    0 cells
 
 pub differ_rest : (w : Cell × ℤ) (ws : List (Cell × ℤ)) → IsTrue (differ (w ∷ ws)) → IsTrue (differ ws)
 differ_rest w ws h = grind arith
@@ -130,8 +130,8 @@ pub renewed_kept : (needs : List Need) (log : List (Cell × ℤ)) (b : ℕ) (cel
 unfolding cells_after start_of cell_after at_start clear_at put_all_at
 renewed_kept needs log b cells cleared put e f =
     f ∙ ap (each_from (put_all_at needs log b) 0) e
-        ∙ each_from-twice (clear_at needs needs b) (put_all_at needs log b) (cell_after needs log b)
-            (λ i v. after_clear (is_written needs b i) (starts_zero needs b i) (logged log (cell.Buffer b i)) v) 0 cells
+    ∙ each_from-twice (clear_at needs needs b) (put_all_at needs log b) (cell_after needs log b)
+    (λ i v. after_clear (is_written needs b i) (starts_zero needs b i) (logged log (cell.Buffer b i)) v) 0 cells
 
 -- zeros throughout, and then the log
 pub renewed_zeros : (needs : List Need) (log : List (Cell × ℤ)) (b : ℕ) (cells cleared put : List ℤ) → cleared ≡ each_from (zero_in 0 (length cells)) 0 cells → put ≡ each_from (put_all_at needs log b) 0 cleared → put ≡ cells_after needs log b (start_of true (length cells) cells)
@@ -139,5 +139,5 @@ unfolding cells_after start_of cell_after at_start zero_in put_all_at
 renewed_zeros needs log b cells cleared put e f =
     let zeros : cleared ≡ replicate (length cells) (pos 0) = e ∙ each_from-all (zero_in 0 (length cells)) (pos 0) 0 cells (λ i v c d. grind (arith, nat_tests)) in
     f ∙ ap (each_from (put_all_at needs log b) 0) zeros
-        ∙ each_from-replicate (put_all_at needs log b) (cell_after needs log b) (pos 0)
-            (λ i. ap (λ z. if is_written needs b i then unwrap_or (logged log (cell.Buffer b i)) z else pos 0) (sym (either (starts_zero needs b i) (pos 0)))) 0 (length cells)
+    ∙ each_from-replicate (put_all_at needs log b) (cell_after needs log b) (pos 0)
+    (λ i. ap (λ z. if is_written needs b i then unwrap_or (logged log (cell.Buffer b i)) z else pos 0) (sym (either (starts_zero needs b i) (pos 0)))) 0 (length cells)

@@ -1,5 +1,5 @@
 -- Publishing the roots that the needs write one after another publishes each of them once.
-use Rattle.std.proofs.Common.{◌≡◌, ℕ, zero, ◌+◌, ◌<◌, ◌≤◌, ℤ, Bool, true, false, List, [], ◌∷◌, ◌++◌, length, set, get_or, take, refl, sym, ap, ◌∙◌, arith, Option, Some, None, option_map, ⊎_elim, eq-eqb}
+use Rattle.std.proofs.Common.{◌≡◌, ℕ, zero, ◌+◌, ◌<◌, ◌≤◌, ℤ, Bool, true, false, List, [], ◌∷◌, ◌++◌, length, set, get_or, take, refl, sym, ap, ◌∙◌, arith, Option, Some, None, option_map, ◌⊎◌, inl, inr, ⊎_elim, eq-eqb}
 use Rattle.std.specs.Prelude.{if◌then◌else◌, ◌==◌, ◌&&◌, ◌||◌}
 use Rattle.std.specs.List.{list_any}
 use Rattle.std.proofs.lemmas.Bool.{ne_eqb, eqb-true}
@@ -21,8 +21,8 @@ unfolding publish_one
 root_there place needs log root xs was is h read e =
     let here : 0 + root ≡ root = omega arith in
     each_from-one (publish_one place needs log root) 0 root xs was is h read
-        (e ∙ (rw (here, eq-eqb root root refl) refl))
-        (λ i x n. rw (ne_eqb root i (λ t. n (sym t ∙ sym here))) refl)
+    (e ∙ (rw (here, eq-eqb root root refl) refl))
+    (λ i x n. rw (ne_eqb root i (λ t. n (sym t ∙ sym here))) refl)
 
 -- one that is not
 pub root_past : (place : ℕ) (needs : List Need) (log : List (Cell × ℤ)) (root : ℕ) (xs : List (Option Buffer)) → length xs ≤ root → xs ≡ each_from (publish_one place needs log root) 0 xs
@@ -69,17 +69,33 @@ pub root_first : (place : ℕ) (needs : List Need) (log : List (Cell × ℤ)) (w
 unfolding publish_one publish_at
 root_first place needs log ws n xs w new =
     each_from-twice (publish_at place needs log ws) (publish_one place needs log n.buffer) (publish_at place needs log (ws ++ n ∷ []))
-        (λ i x. rw (renews-push ws n i)
-            (first_time (option_map (published place needs log i)) (n.buffer == i) (renews ws i) (writes n.mode) x w
-                (λ t. ap (renews ws) (sym (eqb-true n.buffer i t)) ∙ new)))
-        0 xs
+    (λ i x. rw (renews-push ws n i)
+    (first_time (option_map (published place needs log i)) (n.buffer == i) (renews ws i) (writes n.mode) x w
+    (λ t. ap (renews ws) (sym (eqb-true n.buffer i t)) ∙ new)))
+    0 xs
 
 -- a need that does not write, or writes on a root on which one before it does
 pub root_again : (place : ℕ) (needs : List Need) (log : List (Cell × ℤ)) (ws : List Need) (n : Need) (xs : List (Option Buffer)) → (writes n.mode ≡ true → renews ws n.buffer ≡ true) → each_from (publish_at place needs log ws) 0 xs ≡ each_from (publish_at place needs log (ws ++ n ∷ [])) 0 xs
 unfolding publish_at
 root_again place needs log ws n xs old =
     each_from-agree (publish_at place needs log ws) (publish_at place needs log (ws ++ n ∷ [])) 0 xs
-        (λ i x a b. ap (λ c. if c then option_map (published place needs log i) x else x)
-            (again (renews ws i) (n.buffer == i && writes n.mode)
-                (λ t. let parts = and_parts (n.buffer == i) (writes n.mode) t in ap (renews ws) (sym (eqb-true n.buffer i parts.0)) ∙ old parts.1)
-                ∙ sym (renews-push ws n i)))
+    (λ i x a b. ap (λ c. if c then option_map (published place needs log i) x else x)
+    (again (renews ws i) (n.buffer == i && writes n.mode)
+    (λ t. let parts = and_parts (n.buffer == i) (writes n.mode) t in ap (renews ws) (sym (eqb-true n.buffer i parts.0)) ∙ old parts.1)
+    ∙ sym (renews-push ws n i)))
+
+or_parts : (a b : Bool) → (a || b) ≡ true → (a ≡ true) ⊎ (b ≡ true)
+or_parts true b h = inl refl
+or_parts false b h = inr h
+
+-- a root on which one of the first needs writes, or the next one
+pub renews_more : (ws : List Need) (n : Need) (b : ℕ) → renews (ws ++ n ∷ []) b ≡ true → (renews ws b ≡ true) ⊎ ((n.buffer ≡ b) × (writes n.mode ≡ true))
+renews_more ws n b h =
+    ⊎_elim inl
+    (λ t. let parts = and_parts (n.buffer == b) (writes n.mode) t in inr (eqb-true n.buffer b parts.0, parts.1))
+    (or_parts (renews ws b) (n.buffer == b && writes n.mode) (sym (renews-push ws n b) ∙ h))
+
+-- on no root does one of no needs write
+pub renews_none : (b : ℕ) → renews [] b ≡ false
+unfolding renews
+renews_none b = refl

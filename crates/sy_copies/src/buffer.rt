@@ -133,7 +133,14 @@ pub fn reserve_in(entry: &mut Option<Buffer>, alloc: Global, place: u32) -> Resu
 }
 
 /// Makes the version that a command leaves at the place, as [`Buffer::publish`] does.
-pub fn publish_in(entry: &mut Option<Buffer>, alloc: Global, place: u32, root: u32, needs: &[Need], log: &Log)
+pub fn publish_in(
+    entry: &mut Option<Buffer>,
+    alloc: Global,
+    place: u32,
+    root: u32,
+    needs: &[Need],
+    log: &Log,
+)
     ensures { entry.new ≡ option_map (published place needs.now log.now root) entry.old }
 {
     match entry {

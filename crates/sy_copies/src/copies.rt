@@ -94,7 +94,13 @@ impl Copies {
         ensures agree { Agree self.old → Agree self.new }
     {
         let alloc = self.alloc;
-        publish_all(self.buffers.as_mut_slice(), alloc, place, needs.items(), log);
+        publish_all(
+            self.buffers.as_mut_slice(),
+            alloc,
+            place,
+            needs.items(),
+            log,
+        );
     }
 
     /// The current copy of the buffer at the place.
@@ -136,7 +142,14 @@ fn publish_all(buffers: &mut [Option<Buffer>], alloc: Global, place: u32, needs:
 }
 
 /// Publishes one root, if it is there.
-fn publish_root(buffers: &mut [Option<Buffer>], alloc: Global, place: u32, root: u32, needs: &[Need], log: &Log)
+fn publish_root(
+    buffers: &mut [Option<Buffer>],
+    alloc: Global,
+    place: u32,
+    root: u32,
+    needs: &[Need],
+    log: &Log,
+)
     ensures { buffers.new ≡ each_from (publish_one place needs.now log.now root) 0 buffers.old }
 {
     let number = root as usize;

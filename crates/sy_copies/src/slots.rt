@@ -111,15 +111,39 @@ impl Slots {
     }
 
     /// Makes the numbers at the place those that the command leaves of the root, and all others stale.
-    pub fn publish(&mut self, alloc: Global, place: u32, replaced: bool, root: u32, needs: &[Need], log: &Log)
+    pub fn publish(
+        &mut self,
+        alloc: Global,
+        place: u32,
+        replaced: bool,
+        root: u32,
+        needs: &[Need],
+        log: &Log,
+    )
         ensures { self.new ≡ map (slot_after place replaced needs.now log.now root) self.old }
     {
-        publish_all(self.slots.as_mut_slice(), alloc, place, replaced, root, needs, log);
+        publish_all(
+            self.slots.as_mut_slice(),
+            alloc,
+            place,
+            replaced,
+            root,
+            needs,
+            log,
+        );
     }
 }
 
 /// Makes the slot of the place current and all others stale.
-fn publish_all(slots: &mut [Slot], alloc: Global, place: u32, replaced: bool, root: u32, needs: &[Need], log: &Log)
+fn publish_all(
+    slots: &mut [Slot],
+    alloc: Global,
+    place: u32,
+    replaced: bool,
+    root: u32,
+    needs: &[Need],
+    log: &Log,
+)
     ensures { slots.new ≡ map (slot_after place replaced needs.now log.now root) slots.old }
 {
     for slot in slots.iter_mut() {

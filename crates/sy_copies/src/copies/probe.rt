@@ -61,7 +61,8 @@ impl Copies {
         ensures { IsTrue result → MayRenew self.now place needs.now root }
     {
         match self.len(root) {
-            Some(len) => self.has_room(place, root) && (replaces(needs, root, len) || self.view(place, root).is_some()),
+            Some(len) => self.has_room(place, root)
+                && (replaces(needs, root, len) || self.view(place, root).is_some()),
             None => false,
         }
     }

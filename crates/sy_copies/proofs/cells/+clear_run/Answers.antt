@@ -17,14 +17,14 @@ returns-in-None t c =
 pub returns-then-keeps : goal.returns-then-keeps
 returns-then-keeps t c =
     let low : c.clear_run.new.cells ≡ each_from (clear_in c.in-Some.others.now c.args.root c.args.from (min c.args.to c.in-Some.need.now.from)) 0 c.args.cells.now =
-        c.clear_run.ensures ∙ ap (λ n. each_from (clear_in c.in-Some.others.now c.args.root c.args.from n) 0 c.args.cells.now) c.min.ensures in
+    c.clear_run.ensures ∙ ap (λ n. each_from (clear_in c.in-Some.others.now c.args.root c.args.from n) 0 c.args.cells.now) c.min.ensures in
     let high : c.clear_run-then-keeps.new.cells ≡ each_from (clear_in c.in-Some.others.now c.args.root (max c.args.from c.in-Some.need.now.to) c.args.to) 0 c.clear_run.new.cells =
-        c.clear_run-then-keeps.ensures ∙ ap (λ n. each_from (clear_in c.in-Some.others.now c.args.root n c.args.to) 0 c.clear_run.new.cells) c.max.ensures in
+    c.clear_run-then-keeps.ensures ∙ ap (λ n. each_from (clear_in c.in-Some.others.now c.args.root n c.args.to) 0 c.clear_run.new.cells) c.max.ensures in
     rw c.in-Some.ensures.cases.0
-        (high ∙ ap (each_from (clear_in c.in-Some.others.now c.args.root (max c.args.from c.in-Some.need.now.to) c.args.to) 0) low
-            ∙ clear_cut c.in-Some.need.now c.in-Some.others.now c.args.root c.args.from c.args.to c.args.cells.now (sym c.keeps.ensures ∙ c.if-keeps.true))
+    (high ∙ ap (each_from (clear_in c.in-Some.others.now c.args.root (max c.args.from c.in-Some.need.now.to) c.args.to) 0) low
+    ∙ clear_cut c.in-Some.need.now c.in-Some.others.now c.args.root c.args.from c.args.to c.args.cells.now (sym c.keeps.ensures ∙ c.if-keeps.true))
 
 pub returns-else-keeps : goal.returns-else-keeps
 returns-else-keeps t c =
     rw c.in-Some.ensures.cases.0
-        (c.clear_run-else-keeps.ensures ∙ clear_past c.in-Some.need.now c.in-Some.others.now c.args.root c.args.from c.args.to c.args.cells.now (sym c.keeps.ensures ∙ c.if-keeps.false))
+    (c.clear_run-else-keeps.ensures ∙ clear_past c.in-Some.need.now c.in-Some.others.now c.args.root c.args.from c.args.to c.args.cells.now (sym c.keeps.ensures ∙ c.if-keeps.false))

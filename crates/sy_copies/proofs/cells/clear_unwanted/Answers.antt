@@ -18,18 +18,20 @@ loop-need-preserved c =
     let n : Need = get_or c.args.needs.now i none in
     let more = at_drop_more (λ l. each_from (clear_at l c.args.needs.now c.args.root) 0 c.loop-need.cells) c.args.needs.now i none c.loop-need-test.true in
     elim c.if-need-root.branch [
-        then-need-root+then-writes w ↦
-            let both : (n.buffer == c.args.root && writes n.mode) ≡ true = (let a = w.if-need-root.true in let b = w.writes.ensures in let d = w.if-writes.true in grind (arith, nat_tests)) in
-            ap (each_from (clear_at (drop (i + 1) c.args.needs.now) c.args.needs.now c.args.root) 0) (w.cells-is ∙ w.clear_run.ensures)
-                ∙ clear_more n (drop (i + 1) c.args.needs.now) c.args.needs.now c.args.root c.loop-need.cells both
-                ∙ sym more ∙ c.loop-need.invariant
+      | then-need-root+then-writes w ↦
+          let both : (n.buffer == c.args.root && writes n.mode) ≡ true = (let a = w.if-need-root.true in let b = w.writes.ensures in let d = w.if-writes.true in grind (arith, nat_tests)) in
+          ap (each_from (clear_at (drop (i + 1) c.args.needs.now) c.args.needs.now c.args.root) 0) (w.cells-is ∙ w.clear_run.ensures)
+          ∙ clear_more n (drop (i + 1) c.args.needs.now) c.args.needs.now c.args.root c.loop-need.cells both
+          ∙ sym more ∙ c.loop-need.invariant
       | else-need-root w ↦
-            let one : (n.buffer == c.args.root && writes n.mode) ≡ false = elim w.else-need-root.branch [
-                else-need-root-via-then-need-root+else-writes v ↦ (let a = v.if-need-root.true in let b = v.writes.ensures in let d = v.if-writes.false in grind (arith, nat_tests))
-              | else-need-root-via-else-need-root v ↦ (let a = v.if-need-root.false in grind (arith, nat_tests)) ] in
-            ap (each_from (clear_at (drop (i + 1) c.args.needs.now) c.args.needs.now c.args.root) 0) w.cells-is
-                ∙ clear_skip n (drop (i + 1) c.args.needs.now) c.args.needs.now c.args.root c.loop-need.cells one
-                ∙ sym more ∙ c.loop-need.invariant ]
+          let one : (n.buffer == c.args.root && writes n.mode) ≡ false = elim w.else-need-root.branch [
+            | else-need-root-via-then-need-root+else-writes v ↦ (let a = v.if-need-root.true in let b = v.writes.ensures in let d = v.if-writes.false in grind (arith, nat_tests))
+            | else-need-root-via-else-need-root v ↦ (let a = v.if-need-root.false in grind (arith, nat_tests))
+          ] in
+          ap (each_from (clear_at (drop (i + 1) c.args.needs.now) c.args.needs.now c.args.root) 0) w.cells-is
+          ∙ clear_skip n (drop (i + 1) c.args.needs.now) c.args.needs.now c.args.root c.loop-need.cells one
+          ∙ sym more ∙ c.loop-need.invariant
+    ]
 
 pub returns : goal.returns
 returns c =

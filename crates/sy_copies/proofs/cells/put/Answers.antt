@@ -22,7 +22,8 @@ returns-then-is_written c =
 pub returns-else-r-root : goal.returns-else-r-root
 returns-else-r-root c =
     rw c.in-Buffer.is (put_none c.args.needs.now c.in-Buffer.r c.in-Buffer.i c.args.root c.args.number c.args.cells.now
-        (elim c.else-r-root.branch [
-            else-r-root-via-then-r-root+then-i-cells+else-is_written w ↦ (λ a b. sym w.is_written.ensures ∙ w.if-is_written.false)
-          | else-r-root-via-then-r-root+else-i-cells w ↦ (λ a b. absurd (omega arith))
-          | else-r-root-via-else-r-root w ↦ (λ a b. absurd (w.if-r-root.false a)) ]))
+    (elim c.else-r-root.branch [
+      | else-r-root-via-then-r-root+then-i-cells+else-is_written w ↦ (λ a b. sym w.is_written.ensures ∙ w.if-is_written.false)
+      | else-r-root-via-then-r-root+else-i-cells w ↦ (λ a b. absurd (omega arith))
+      | else-r-root-via-else-r-root w ↦ (λ a b. absurd (w.if-r-root.false a))
+    ]))

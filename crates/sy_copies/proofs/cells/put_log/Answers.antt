@@ -26,7 +26,7 @@ loop-cell-preserved c =
           ∙ put_more c.args.needs.now w (drop (i + 1) items) c.args.root c.loop-cell.cells once
           ∙ ap (λ l. each_from (put_all_at c.args.needs.now l c.args.root) 0 c.loop-cell.cells) (sym parts)
           ∙ c.loop-cell.invariant.rest;
-      once = differ_rest w (drop (i + 1) items) once
+      once = differ_rest w (drop (i + 1) items) once;
     }
 
 pub returns : goal.returns

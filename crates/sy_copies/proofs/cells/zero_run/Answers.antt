@@ -7,9 +7,9 @@ loop-i-init c = record { bound = omega arith; zeros = zero_none c.args.from c.ar
 
 pub loop-i-preserved : goal.loop-i-preserved
 loop-i-preserved c = record {
-    bound = omega arith;
-    zeros = zero_more c.args.from c.loop-i.i c.loop-i.cells c.args.cells.now (omega arith) c.loop-i.invariant.zeros
-  }
+  bound = omega arith;
+  zeros = zero_more c.args.from c.loop-i.i c.loop-i.cells c.args.cells.now (omega arith) c.loop-i.invariant.zeros;
+}
 
 pub returns : goal.returns
 returns c = zero_all c.args.from c.args.to c.loop-i.i c.loop-i.cells c.args.cells.now (omega arith) (omega arith) (omega arith) c.loop-i.invariant.zeros

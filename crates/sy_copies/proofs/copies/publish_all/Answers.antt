@@ -22,13 +22,15 @@ loop-k-preserved c =
     let n : Need = get_or needs k none in
     let more : take (k + 1) needs ≡ take k needs ++ n ∷ [] = take_more needs k none c.loop-k-test.true in
     elim c.if-writes.branch [
-        then-writes+then-not-renews w ↦
-            let writing : writes n.mode ≡ true = sym c.writes.ensures ∙ w.if-writes.true in
-            let new : renews (take k needs) n.buffer ≡ false = sym w.renews.ensures ∙ w.if-not-renews.true in
-            rw more (w.buffers-is ∙ w.publish_root.ensures ∙ ap (each_from (publish_one c.args.place needs c.args.log.now n.buffer) 0) c.loop-k.invariant
-                ∙ root_first c.args.place needs c.args.log.now (take k needs) n c.args.buffers.now writing new)
+      | then-writes+then-not-renews w ↦
+          let writing : writes n.mode ≡ true = sym c.writes.ensures ∙ w.if-writes.true in
+          let new : renews (take k needs) n.buffer ≡ false = sym w.renews.ensures ∙ w.if-not-renews.true in
+          rw more (w.buffers-is ∙ w.publish_root.ensures ∙ ap (each_from (publish_one c.args.place needs c.args.log.now n.buffer) 0) c.loop-k.invariant
+          ∙ root_first c.args.place needs c.args.log.now (take k needs) n c.args.buffers.now writing new)
       | else-writes w ↦
-            let old : writes n.mode ≡ true → renews (take k needs) n.buffer ≡ true = elim w.else-writes.branch [
-                else-writes-via-then-writes+else-not-renews v ↦ (λ t. sym v.renews.ensures ∙ v.if-not-renews.false)
-              | else-writes-via-else-writes v ↦ (λ t. absurd (let z : false ≡ true = sym v.if-writes.false ∙ c.writes.ensures ∙ t in cc)) ] in
-            rw more (w.buffers-is ∙ c.loop-k.invariant ∙ root_again c.args.place needs c.args.log.now (take k needs) n c.args.buffers.now old) ]
+          let old : writes n.mode ≡ true → renews (take k needs) n.buffer ≡ true = elim w.else-writes.branch [
+            | else-writes-via-then-writes+else-not-renews v ↦ (λ t. sym v.renews.ensures ∙ v.if-not-renews.false)
+            | else-writes-via-else-writes v ↦ (λ t. absurd (let z : false ≡ true = sym v.if-writes.false ∙ c.writes.ensures ∙ t in cc))
+          ] in
+          rw more (w.buffers-is ∙ c.loop-k.invariant ∙ root_again c.args.place needs c.args.log.now (take k needs) n c.args.buffers.now old)
+    ]

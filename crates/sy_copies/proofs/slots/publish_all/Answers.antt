@@ -14,11 +14,12 @@ loop-slot-preserved c =
     let f : Slot → Slot = slot_after c.args.place c.args.replaced c.args.needs.now c.args.log.now c.args.root in
     let step : set slots i (f x) ≡ map f (take (i + 1) c.args.slots.now) ++ drop (i + 1) c.args.slots.now = map_over_more f c.args.slots.now slots i x c.loop-slot-test.true c.loop-slot.invariant c.slot-item.is in
     elim c.if-slot-place.branch [
-        then-slot-place w ↦
-            let here : x.place ≡ c.args.place = ap (λ (s : Slot). s.place) c.slot-item.is ∙ w.if-slot-place.true in
-            w.slots-is ∙ ap (set slots i) (w.renew.ensures ∙ ap (renewed_slot c.args.replaced c.args.needs.now c.args.log.now c.args.root) (sym c.slot-item.is)
-                ∙ after_here c.args.place c.args.replaced c.args.needs.now c.args.log.now c.args.root x here) ∙ step
+      | then-slot-place w ↦
+          let here : x.place ≡ c.args.place = ap (λ (s : Slot). s.place) c.slot-item.is ∙ w.if-slot-place.true in
+          w.slots-is ∙ ap (set slots i) (w.renew.ensures ∙ ap (renewed_slot c.args.replaced c.args.needs.now c.args.log.now c.args.root) (sym c.slot-item.is)
+          ∙ after_here c.args.place c.args.replaced c.args.needs.now c.args.log.now c.args.root x here) ∙ step
       | else-slot-place w ↦
-            let there : x.place ≡ c.args.place → ⊥ = λ e. w.if-slot-place.false (sym (ap (λ (s : Slot). s.place) c.slot-item.is) ∙ e) in
-            let stale : Slot → Slot = λ s. record s { current = false } in
-            w.slots-is ∙ ap (λ s. set slots i (stale s)) (sym c.slot-item.is) ∙ ap (set slots i) (after_elsewhere c.args.place c.args.replaced c.args.needs.now c.args.log.now c.args.root x there) ∙ step ]
+          let there : x.place ≡ c.args.place → ⊥ = λ e. w.if-slot-place.false (sym (ap (λ (s : Slot). s.place) c.slot-item.is) ∙ e) in
+          let stale : Slot → Slot = λ s. record s { current = false } in
+          w.slots-is ∙ ap (λ s. set slots i (stale s)) (sym c.slot-item.is) ∙ ap (set slots i) (after_elsewhere c.args.place c.args.replaced c.args.needs.now c.args.log.now c.args.root x there) ∙ step
+    ]

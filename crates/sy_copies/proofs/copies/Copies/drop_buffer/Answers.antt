@@ -17,14 +17,14 @@ returns-then-number-len-clause-dropped c =
     let old : List (Option Buffer) = c.self.inside.buffers.items in
     let within : c.args.buffer < length old = omega arith in
     subst (λ (l : List (Option Buffer)). Drops l (set old c.args.buffer c.drop_in.new.entry) c.args.buffer) c.self.view_is
-        (drops old c.args.buffer c.drop_in.new.entry within c.drop_in.ensures c.self.invariant).0
+    (drops old c.args.buffer c.drop_in.new.entry within c.drop_in.ensures c.self.invariant).0
 
 pub returns-then-number-len-clause-agree : goal.returns-then-number-len-clause-agree
 returns-then-number-len-clause-agree c = λ agree.
     let old : List (Option Buffer) = c.self.inside.buffers.items in
     let within : c.args.buffer < length old = omega arith in
     agree_drops old (set old c.args.buffer c.drop_in.new.entry) c.args.buffer
-        (drops old c.args.buffer c.drop_in.new.entry within c.drop_in.ensures c.self.invariant).0 (subst Agree (sym c.self.view_is) agree)
+    (drops old c.args.buffer c.drop_in.new.entry within c.drop_in.ensures c.self.invariant).0 (subst Agree (sym c.self.view_is) agree)
 
 pub returns-else-number-len-clause-dropped : goal.returns-else-number-len-clause-dropped
 returns-else-number-len-clause-dropped c =

@@ -22,8 +22,8 @@ invariant_of-self c =
     let is : Option Buffer = c.install_in.new.entry in
     let sized : len_at old k ≡ Some (length c.args.values) = subst (λ (l : List (Option Buffer)). len_at l k ≡ Some (length c.args.values)) (sym c.self.view_is) c.requires in
     either_way c.install_in.result c.install_in.ensures.ok c.install_in.ensures.err
-        (λ e. (installs old c.args.place k c.args.values was is sized c.index_mut.ensures.value e c.self.invariant).1)
-        (λ e. subst Sound (sym (kept_set old k was is c.index_mut.ensures.value e)) c.self.invariant)
+    (λ e. (installs old c.args.place k c.args.values was is sized c.index_mut.ensures.value e c.self.invariant).1)
+    (λ e. subst Sound (sym (kept_set old k was is c.index_mut.ensures.value e)) c.self.invariant)
 
 pub returns-clause-installed : goal.returns-clause-installed
 returns-clause-installed c =
@@ -33,8 +33,8 @@ returns-clause-installed c =
     let is : Option Buffer = c.install_in.new.entry in
     let sized : len_at old k ≡ Some (length c.args.values) = subst (λ (l : List (Option Buffer)). len_at l k ≡ Some (length c.args.values)) (sym c.self.view_is) c.requires in
     on_ok_weaker c.install_in.result
-        (λ e. subst (λ (l : List (Option Buffer)). Installs l (set old k is) c.args.place k c.args.values) c.self.view_is (installs old c.args.place k c.args.values was is sized c.index_mut.ensures.value e c.self.invariant).0)
-        c.install_in.ensures.ok
+    (λ e. subst (λ (l : List (Option Buffer)). Installs l (set old k is) c.args.place k c.args.values) c.self.view_is (installs old c.args.place k c.args.values was is sized c.index_mut.ensures.value e c.self.invariant).0)
+    c.install_in.ensures.ok
 
 pub returns-clause-room : goal.returns-clause-room
 unfolding has_room
@@ -56,6 +56,6 @@ returns-clause-agree c = λ agree same.
     let sized : len_at old k ≡ Some (length c.args.values) = subst (λ (l : List (Option Buffer)). len_at l k ≡ Some (length c.args.values)) (sym c.self.view_is) c.requires in
     let G : Type 0 = Agree (set old k is) in
     either_way c.install_in.result {G = G} c.install_in.ensures.ok c.install_in.ensures.err
-        (λ e. agree_installs c.args.self.now (set old k is) c.args.place k c.args.values
-            (subst (λ (l : List (Option Buffer)). Installs l (set old k is) c.args.place k c.args.values) c.self.view_is (installs old c.args.place k c.args.values was is sized c.index_mut.ensures.value e c.self.invariant).0) agree same)
-        (λ e. subst Agree (sym (kept_set old k was is c.index_mut.ensures.value e ∙ c.self.view_is)) agree)
+    (λ e. agree_installs c.args.self.now (set old k is) c.args.place k c.args.values
+    (subst (λ (l : List (Option Buffer)). Installs l (set old k is) c.args.place k c.args.values) c.self.view_is (installs old c.args.place k c.args.values was is sized c.index_mut.ensures.value e c.self.invariant).0) agree same)
+    (λ e. subst Agree (sym (kept_set old k was is c.index_mut.ensures.value e ∙ c.self.view_is)) agree)

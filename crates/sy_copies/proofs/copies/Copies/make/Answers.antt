@@ -19,11 +19,11 @@ returns-clause-made c =
     let new : c.push.new.self.items ≡ old ++ Some (first c.args.len c.args.init) ∷ [] = rw (← c.in_ok-buffer.ensures) c.in_ok-push.ensures.items in
     let number : c.len-number.result ≡ length old = omega arith in
     rw (new, number) (subst (λ (l : List (Option Buffer)). Makes l (old ++ Some (first c.args.len c.args.init) ∷ []) c.args.len c.args.init (length old)) c.self.view_is
-        (makes old c.args.len c.args.init (fitting c.args.len c.args.init c.requires.fits) c.self.invariant).0)
+    (makes old c.args.len c.args.init (fitting c.args.len c.args.init c.requires.fits) c.self.invariant).0)
 
 pub returns-clause-agree : goal.returns-clause-agree
 returns-clause-agree c = λ agree.
     let old : List (Option Buffer) = c.self.inside.buffers.items in
     let new : c.push.new.self.items ≡ old ++ Some (first c.args.len c.args.init) ∷ [] = rw (← c.in_ok-buffer.ensures) c.in_ok-push.ensures.items in
     subst Agree (sym new) (agree_makes old (old ++ Some (first c.args.len c.args.init) ∷ []) c.args.len c.args.init (length old)
-        (makes old c.args.len c.args.init (fitting c.args.len c.args.init c.requires.fits) c.self.invariant).0 (subst Agree (sym c.self.view_is) agree))
+    (makes old c.args.len c.args.init (fitting c.args.len c.args.init c.requires.fits) c.self.invariant).0 (subst Agree (sym c.self.view_is) agree))

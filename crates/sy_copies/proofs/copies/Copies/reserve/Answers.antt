@@ -20,8 +20,8 @@ invariant_of-self c =
     let is : Option Buffer = c.reserve_in.new.entry in
     let sized : IsSome (len_at old k) = subst (λ (l : List (Option Buffer)). IsSome (len_at l k)) (sym c.self.view_is) c.requires in
     either_way c.reserve_in.result c.reserve_in.ensures.ok c.reserve_in.ensures.err
-        (λ e. (reserves old c.args.place k was is sized c.index_mut.ensures.value e c.self.invariant).1)
-        (λ e. subst Sound (sym (kept_set old k was is c.index_mut.ensures.value e)) c.self.invariant)
+    (λ e. (reserves old c.args.place k was is sized c.index_mut.ensures.value e c.self.invariant).1)
+    (λ e. subst Sound (sym (kept_set old k was is c.index_mut.ensures.value e)) c.self.invariant)
 
 pub returns-clause-reserved : goal.returns-clause-reserved
 returns-clause-reserved c =
@@ -31,8 +31,8 @@ returns-clause-reserved c =
     let is : Option Buffer = c.reserve_in.new.entry in
     let sized : IsSome (len_at old k) = subst (λ (l : List (Option Buffer)). IsSome (len_at l k)) (sym c.self.view_is) c.requires in
     on_ok_weaker c.reserve_in.result
-        (λ e. subst (λ (l : List (Option Buffer)). Reserves l (set old k is) c.args.place k) c.self.view_is (reserves old c.args.place k was is sized c.index_mut.ensures.value e c.self.invariant).0)
-        c.reserve_in.ensures.ok
+    (λ e. subst (λ (l : List (Option Buffer)). Reserves l (set old k is) c.args.place k) c.self.view_is (reserves old c.args.place k was is sized c.index_mut.ensures.value e c.self.invariant).0)
+    c.reserve_in.ensures.ok
 
 pub returns-clause-agree : goal.returns-clause-agree
 returns-clause-agree c = λ agree.
@@ -43,5 +43,5 @@ returns-clause-agree c = λ agree.
     let sized : IsSome (len_at old k) = subst (λ (l : List (Option Buffer)). IsSome (len_at l k)) (sym c.self.view_is) c.requires in
     let G : Type 0 = Agree (set old k is) in
     either_way c.reserve_in.result {G = G} c.reserve_in.ensures.ok c.reserve_in.ensures.err
-        (λ e. agree_same old (set old k is) (reserves old c.args.place k was is sized c.index_mut.ensures.value e c.self.invariant).0.copies (subst Agree (sym c.self.view_is) agree))
-        (λ e. subst Agree (sym (kept_set old k was is c.index_mut.ensures.value e ∙ c.self.view_is)) agree)
+    (λ e. agree_same old (set old k is) (reserves old c.args.place k was is sized c.index_mut.ensures.value e c.self.invariant).0.copies (subst Agree (sym c.self.view_is) agree))
+    (λ e. subst Agree (sym (kept_set old k was is c.index_mut.ensures.value e ∙ c.self.view_is)) agree)
