@@ -1,15 +1,14 @@
 -- Each call keeps that all current copies of a buffer are equal.
-use Rattle.std.proofs.Common.{◌≡◌, ℕ, ◌+◌, ℤ, Bool, true, false, List, [], length, refl, sym, ap, ◌∙◌, Option, Some, None, Result, Ok, Err, OnOk, OnErr, IsOk, IsTrue, subst, ◌⊎◌, inl, inr, ⊎_elim}
-use Rattle.std.specs.Prelude.{if◌then◌else◌, ◌==◌, ◌&&◌}
+use Rattle.std.proofs.Common.{◌≡◌, ℕ, ℤ, Bool, true, false, List, [], refl, sym, ap, ◌∙◌, Option, Some, None, Result, Ok, Err, OnOk, OnErr, IsOk, IsTrue, ◌⊎◌, inl, inr, ⊎_elim}
+use Rattle.std.specs.Prelude.{if◌then◌else◌, ◌==◌}
 use Rattle.std.proofs.lemmas.Option.{same_Some}
 use Rattle.std.proofs.lemmas.Bool.Decides.{eqb_tells}
 use Rattle.sy_access.specs.declared.access.Need.{Need}
 use Rattle.sy_access.specs.declared.cells.Cell.{Cell}
 use Rattle.sy_copies.specs.declared.buffer.Buffer.{Buffer}
 use Rattle.sy_copies.specs.Commands.{renews}
-use Rattle.sy_copies.specs.Places.{zeros}
 use Rattle.sy_copies.specs.Current.{copy_at, len_at, Agree, has_room, room_of, len_of, buffer_at}
-use Rattle.sy_copies.specs.Calls.{first_copy, Makes, Installs, Reserves, MayPublish, Publishes, Drops, version}
+use Rattle.sy_copies.specs.Calls.{first_copy, Makes, Installs, MayPublish, Publishes, Drops, version}
 
 -- a choice whose other side is none
 only : {A : Type 0} (c : Bool) (x y : A) → (if c then Some x else None) ≡ Some y → x ≡ y

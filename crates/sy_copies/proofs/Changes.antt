@@ -1,17 +1,16 @@
 -- What each change of a buffer does to its copies and its room, and that it stays sound.
-use Rattle.std.proofs.Common.{◌≡◌, ℕ, zero, suc, ℤ, pos, Bool, true, false, List, [], ◌∷◌, length, map, replicate, refl, sym, ap, ◌∙◌, arith, Option, Some, None, eq-eqb, IsTrue, option_map, subst, ◌⊎◌, inl, inr, ⊎_elim}
+use Rattle.std.proofs.Common.{◌≡◌, ℕ, ℤ, pos, Bool, true, false, List, [], ◌∷◌, length, map, refl, sym, ap, ◌∙◌, Option, Some, None, eq-eqb, IsTrue, option_map, ◌⊎◌, inl, inr, ⊎_elim}
 use Rattle.std.specs.Prelude.{if◌then◌else◌, ◌==◌, ◌&&◌, ◌||◌, not, unwrap_or}
 use Rattle.std.specs.List.{list_all}
 use Rattle.std.specs.Option.{is_some}
 use Rattle.std.proofs.lemmas.Bool.{ne_eqb, eqb-true}
 use Rattle.std.proofs.lemmas.List.{length-replicate}
 use Rattle.std.proofs.lemmas.Option.{same_Some}
-use Rattle.std.proofs.lemmas.Bool.Decides.{nat_tests, eqb_tells}
+use Rattle.std.proofs.lemmas.Bool.Decides.{eqb_tells}
 use Rattle.sy_access.specs.declared.access.Need.{Need}
 use Rattle.sy_access.specs.declared.cells.Cell.{Cell}
 use Rattle.sy_copies.specs.declared.slots.Slot.{Slot}
 use Rattle.sy_copies.specs.declared.buffer.Buffer.{Buffer}
-use Rattle.sy_copies.specs.Each.{each_from}
 use Rattle.sy_copies.specs.Commands.{cells_after, cell_after, start_of, replaces}
 use Rattle.sy_copies.specs.Slots.{slot_at, has_slot, with_slot, renewed_slot, slot_after}
 use Rattle.sy_copies.specs.Places.{zeros, own_or, copy_in, first, current_slot, installed, stale_slot, reserved, published}

@@ -5,14 +5,14 @@ use Rattle.std.specs.Option.{is_some}
 use Rattle.std.proofs.lemmas.Bool.{ne_eqb}
 use Rattle.std.proofs.lemmas.List.{length-set, length_push, set-get_or}
 use Rattle.std.proofs.lemmas.Option.{same_Some}
-use Rattle.std.proofs.lemmas.Bool.Decides.{nat_tests, eqb_tells}
+use Rattle.std.proofs.lemmas.Bool.Decides.{eqb_tells}
 use Rattle.sy_access.specs.declared.access.Need.{Need}
 use Rattle.sy_access.specs.declared.cells.Cell.{Cell}
 use Rattle.sy_copies.specs.declared.buffer.Buffer.{Buffer}
 use Rattle.sy_copies.specs.Each.{each_from}
 use Rattle.sy_copies.specs.Commands.{renews, replaces}
 use Rattle.sy_copies.specs.Places.{copy_in, first, installed, reserved, published}
-use Rattle.sy_copies.specs.Current.{buffer_at, copy_of, copy_at, len_of, len_at, room_of, has_room, IsSound, Sound, Agree, publish_at}
+use Rattle.sy_copies.specs.Current.{buffer_at, copy_of, copy_at, len_of, len_at, room_of, has_room, IsSound, Sound, publish_at}
 use Rattle.sy_copies.specs.Calls.{first_copy, first_room, Makes, Installs, Reserves, MayPublish, Publishes, Drops, version}
 use Rattle.sy_copies.proofs.Over.{length-each_from}
 use Rattle.sy_copies.proofs.Changes.{copy_first, room_first, len_first, sound_first, copy_installed, room_installed, len_installed, sound_installed, copy_reserved, room_reserved, len_reserved, sound_reserved, copy_published, room_published, len_published, sound_published}

@@ -1,7 +1,6 @@
 -- The steps in which the elements of a root are renewed give what the command leaves.
-use Rattle.std.proofs.Common.{◌≡◌, ℕ, zero, suc, ◌+◌, ◌-◌, min, max, ◌<◌, ◌≤◌, ℤ, pos, Bool, true, false, List, [], ◌∷◌, length, set, replicate, drop, refl, sym, ap, ◌∙◌, arith, IsTrue, Option, Some, None}
-use Rattle.std.specs.Prelude.{if◌then◌else◌, ◌&&◌, ◌||◌, not, ◌==◌, nat_lt, nat_le, unwrap_or}
-use Rattle.std.specs.List.{list_any, list_all}
+use Rattle.std.proofs.Common.{◌≡◌, ℕ, ◌+◌, min, max, ◌<◌, ◌≤◌, ℤ, pos, Bool, true, false, List, [], ◌∷◌, length, set, replicate, refl, sym, ap, ◌∙◌, arith, IsTrue, Option, Some, None}
+use Rattle.std.specs.Prelude.{if◌then◌else◌, ◌&&◌, ◌==◌, unwrap_or}
 use Rattle.std.proofs.lemmas.Bool.Decides.{nat_tests}
 use Rattle.sy_access.specs.declared.access.Need.{Need}
 use Rattle.sy_access.specs.declared.cells.Cell.{Cell}
@@ -9,7 +8,7 @@ use Rattle.sy_access.specs.declared.cells.Cell.TheVariants as cell
 use Rattle.sy_access.specs.Needs.{has_cell, writes}
 use Rattle.sy_access.specs.Logs.{same_cell, logged, is_logged, differ}
 use Rattle.sy_copies.specs.Each.{each_from}
-use Rattle.sy_copies.specs.Commands.{starts_zero, is_fresh_at, is_written, writes_at, at_start, cell_after, cells_after, start_of, keeps}
+use Rattle.sy_copies.specs.Commands.{starts_zero, is_written, at_start, cell_after, cells_after, start_of, keeps}
 use Rattle.sy_copies.specs.Parts.{zero_in, clear_in, clear_at, put_at, put_all_at}
 use Rattle.sy_copies.proofs.Over.{each_from-agree, each_from-kept, each_from-twice, each_from-set, each_from-all, each_from-replicate}
 

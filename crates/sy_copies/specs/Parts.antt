@@ -1,5 +1,5 @@
 -- The steps in which the elements of a root are renewed.
-use Rattle.std.specs.Prelude.{ℕ, ℤ, pos, Bool, ◌&&◌, nat_lt, nat_le, if◌then◌else◌, List, unwrap_or}
+use Rattle.std.specs.Prelude.{ℕ, ℤ, pos, ◌&&◌, nat_lt, nat_le, if◌then◌else◌, List, unwrap_or}
 use Rattle.sy_access.specs.declared.access.Need.{Need}
 use Rattle.sy_access.specs.declared.cells.Cell.{Cell}
 use Rattle.sy_access.specs.declared.cells.Cell.TheVariants as cell

@@ -11,8 +11,7 @@ use std::alloc::{AllocError, Global};
 use std::marker::Model;
 use sy_access::{Log, Need, Needs, Values};
 
-#[cfg(test)]
-mod probe;
+mod conditions;
 
 /// For each place the current copies of the buffers that were made. Buffers are numbered from 0.
 ///

@@ -1,6 +1,5 @@
-use Rattle.std.proofs.Common.{◌≡◌, ℤ, List, length, min, max, [], ◌∷◌, arith, sym, ap, ◌∙◌, true, false}
+use Rattle.std.proofs.Common.{◌≡◌, min, max, [], arith, sym, ap, ◌∙◌}
 use Rattle.std.proofs.lemmas.Grind.{common_steps}
-use Rattle.sy_access.specs.declared.access.Need.{Need}
 use Rattle.sy_copies.specs.Parts.{clear_in}
 use Rattle.sy_copies.specs.Each.{each_from}
 use Rattle.sy_copies.proofs.Renewal.{clear_none, clear_alone, clear_past, clear_cut}

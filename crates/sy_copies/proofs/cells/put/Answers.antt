@@ -1,11 +1,6 @@
-use Rattle.std.proofs.Common.{◌≡◌, ◌<◌, ℤ, List, Bool, true, false, to_z, of_z, arith, ap, ◌∙◌, sym, subst, rules, length}
+use Rattle.std.proofs.Common.{◌≡◌, to_z, of_z, arith, ◌∙◌, sym}
 use Rattle.std.specs.Int.{w128}
 use Rattle.std.proofs.lemmas.Int.{to_z-of_z}
-use Rattle.sy_access.specs.declared.cells.Cell.{Cell}
-use Rattle.sy_access.specs.declared.cells.Cell.TheVariants as cell
-use Rattle.sy_copies.specs.Each.{each_from}
-use Rattle.sy_copies.specs.Commands.{is_written}
-use Rattle.sy_copies.specs.Parts.{put_at}
 use Rattle.sy_copies.proofs.Renewal.{put_one, put_none, put_local}
 use Rattle.sy_copies.proofs.cells.put.Goals as goal
 use Rattle.sy_copies.proofs.cells.put.Goals.{else-r-root-via-then-r-root+then-i-cells+else-is_written, else-r-root-via-then-r-root+else-i-cells, else-r-root-via-else-r-root}

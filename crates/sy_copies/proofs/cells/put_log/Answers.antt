@@ -1,4 +1,4 @@
-use Rattle.std.proofs.Common.{◌≡◌, ◌+◌, ℤ, ℕ, List, [], ◌∷◌, drop, get_or, length, arith, sym, ap, ◌∙◌, subst, IsTrue, rules, SFits, to_z, of_z}
+use Rattle.std.proofs.Common.{◌≡◌, ◌+◌, ℤ, ℕ, List, ◌∷◌, drop, get_or, sym, ap, ◌∙◌, subst, IsTrue, rules, SFits, to_z, of_z}
 use Rattle.std.specs.Int.{w128}
 use Rattle.std.proofs.lemmas.Int.{to_z-of_z}
 use Rattle.std.specs.Prelude.{pos}

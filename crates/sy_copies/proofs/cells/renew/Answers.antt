@@ -1,7 +1,4 @@
-use Rattle.std.proofs.Common.{◌≡◌, ℤ, List, Bool, length, arith, sym, ap, ◌∙◌, subst, true, false}
-use Rattle.sy_copies.specs.Parts.{put_all_at}
-use Rattle.sy_copies.specs.Each.{each_from}
-use Rattle.sy_copies.specs.Commands.{cells_after, start_of}
+use Rattle.std.proofs.Common.{◌∙◌}
 use Rattle.sy_copies.proofs.Renewal.{renewed_kept, renewed_zeros}
 use Rattle.sy_copies.proofs.cells.renew.Goals as goal
 use Rattle.sy_copies.proofs.cells.renew.Goals.{then-from_zeros, else-from_zeros}

@@ -1,6 +1,4 @@
-use Rattle.std.proofs.Common.{◌≡◌, List, ℤ, ap, sym, ◌∙◌, refl, arith}
-use Rattle.sy_copies.specs.declared.slots.Slot.{Slot}
-use Rattle.sy_copies.specs.declared.buffer.Buffer.{Buffer}
+use Rattle.std.proofs.Common.{◌∙◌, refl}
 use Rattle.sy_copies.specs.Places.{first, installed}
 use Rattle.sy_copies.proofs.buffer.Buffer.new.Goals as goal
 

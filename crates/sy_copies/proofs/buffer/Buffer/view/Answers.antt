@@ -1,4 +1,4 @@
-use Rattle.std.proofs.Common.{◌≡◌, refl, sym, ◌∙◌, Some, None}
+use Rattle.std.proofs.Common.{◌≡◌, refl, sym, ◌∙◌}
 use Rattle.sy_copies.specs.Places.{copy_in}
 use Rattle.sy_copies.proofs.Seats.{shown}
 use Rattle.sy_copies.proofs.buffer.Buffer.view.Goals as goal

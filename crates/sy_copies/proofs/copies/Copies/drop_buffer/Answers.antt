@@ -1,6 +1,6 @@
-use Rattle.std.proofs.Common.{◌≡◌, ◌<◌, ◌≤◌, ℕ, List, Option, Some, None, length, set, sym, ◌∙◌, subst, arith}
+use Rattle.std.proofs.Common.{◌<◌, ◌≤◌, List, Option, length, set, sym, subst, arith}
 use Rattle.sy_copies.specs.declared.buffer.Buffer.{Buffer}
-use Rattle.sy_copies.specs.Current.{Sound, Agree}
+use Rattle.sy_copies.specs.Current.{Agree}
 use Rattle.sy_copies.specs.Calls.{Drops}
 use Rattle.sy_copies.proofs.Entries.{drops, drops_past}
 use Rattle.sy_copies.proofs.Agreement.{agree_drops}

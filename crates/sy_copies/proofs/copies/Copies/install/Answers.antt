@@ -1,8 +1,7 @@
-use Rattle.std.proofs.Common.{◌≡◌, ◌<◌, ℕ, Bool, true, false, List, ℤ, Option, Some, length, set, get_or, OnOk, OnErr, IsTrue, IsOk, sym, ap, ◌∙◌, subst, arith}
+use Rattle.std.proofs.Common.{◌≡◌, ◌<◌, ℕ, List, Option, Some, length, set, IsTrue, sym, ◌∙◌, subst, arith}
 use Rattle.std.proofs.lemmas.Result.{on_ok_weaker}
 use Rattle.sy_copies.specs.declared.buffer.Buffer.{Buffer}
-use Rattle.sy_copies.specs.Places.{installed}
-use Rattle.sy_copies.specs.Current.{len_at, has_room, copy_at, buffer_at, room_of, Sound, Agree}
+use Rattle.sy_copies.specs.Current.{len_at, has_room, buffer_at, room_of, Sound, Agree}
 use Rattle.sy_copies.specs.Calls.{Installs}
 use Rattle.sy_copies.proofs.Entries.{with_length, installs, kept_set, read_there}
 use Rattle.sy_copies.proofs.Agreement.{agree_installs, either_way, ok_unless}

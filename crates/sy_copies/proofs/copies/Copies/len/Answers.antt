@@ -1,5 +1,4 @@
-use Rattle.std.proofs.Common.{◌≡◌, ◌<◌, ◌≤◌, ℕ, List, Option, length, sym, ap, ◌∙◌, arith}
-use Rattle.sy_copies.specs.declared.buffer.Buffer.{Buffer}
+use Rattle.std.proofs.Common.{◌<◌, ◌≤◌, length, sym, ap, ◌∙◌, arith}
 use Rattle.sy_copies.specs.Current.{len_at, len_of}
 use Rattle.sy_copies.proofs.Entries.{see_past, see_read}
 use Rattle.sy_copies.proofs.copies.Copies.len.Goals as goal

@@ -1,4 +1,4 @@
-use Rattle.std.proofs.Common.{◌≡◌, ◌<◌, ◌≤◌, ◌++◌, ◌∷◌, [], ℕ, ℤ, List, Option, Some, None, length, sym, ap, ◌∙◌, subst, arith, IfSome}
+use Rattle.std.proofs.Common.{◌≡◌, ◌++◌, ◌∷◌, [], List, Option, Some, length, sym, subst, arith}
 use Rattle.sy_copies.specs.declared.buffer.Buffer.{Buffer}
 use Rattle.sy_copies.specs.Places.{first}
 use Rattle.sy_copies.specs.Current.{Sound, Agree}

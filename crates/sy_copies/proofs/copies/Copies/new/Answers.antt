@@ -1,5 +1,4 @@
-use Rattle.std.proofs.Common.{◌≡◌, ℕ, ℤ, List, [], Option, Some, None, sym, ap, ◌∙◌, subst}
-use Rattle.sy_copies.specs.declared.buffer.Buffer.{Buffer}
+use Rattle.std.proofs.Common.{sym, subst}
 use Rattle.sy_copies.specs.Current.{Agree}
 use Rattle.sy_copies.proofs.Agreement.{agree_none}
 use Rattle.sy_copies.proofs.copies.Copies.new.Goals as goal

@@ -1,9 +1,8 @@
-use Rattle.std.proofs.Common.{◌≡◌, ℕ, Bool, true, false, List, ℤ, length, ap, sym, ◌∙◌, refl}
+use Rattle.std.proofs.Common.{◌≡◌, true, List, ℤ, ap, ◌∙◌}
 use Rattle.std.proofs.Common.{arith}
 use Rattle.std.proofs.lemmas.Grind.{common_steps}
 use Rattle.std.specs.Prelude.{not, ◌||◌}
 use Rattle.sy_copies.specs.declared.slots.Slot.{Slot}
-use Rattle.sy_copies.specs.Commands.{cells_after, start_of}
 use Rattle.sy_copies.specs.Slots.{renewed_slot}
 use Rattle.sy_copies.proofs.slots.Slot.renew.Goals as goal
 use Rattle.sy_copies.proofs.slots.Slot.renew.Goals.{then-replaced, else-replaced}

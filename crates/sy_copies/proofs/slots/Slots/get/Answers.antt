@@ -1,6 +1,6 @@
-use Rattle.std.proofs.Common.{◌≡◌, ◌<◌, ℕ, List, length, get_or, take, Some, None, arith, ap, sym, ◌∙◌, subst}
+use Rattle.std.proofs.Common.{◌≡◌, List, Some, ◌∙◌, subst}
 use Rattle.sy_copies.specs.declared.slots.Slot.{Slot}
-use Rattle.sy_copies.specs.Slots.{slot_at, with_slot, IsSlotOf}
+use Rattle.sy_copies.specs.Slots.{slot_at}
 use Rattle.sy_copies.proofs.Seats.{no_slot_more, slot_read}
 use Rattle.sy_copies.proofs.slots.Slots.get.Goals as goal
 

@@ -1,4 +1,4 @@
-use Rattle.std.proofs.Common.{◌≡◌, ◌++◌, ◌∷◌, [], List, ap, sym, ◌∙◌, refl}
+use Rattle.std.proofs.Common.{◌++◌, ◌∷◌, [], List, ap, ◌∙◌}
 use Rattle.sy_copies.specs.declared.slots.Slot.{Slot}
 use Rattle.sy_copies.proofs.Seats.{slot_added}
 use Rattle.sy_copies.proofs.slots.Slots.put.Goals as goal

@@ -1,4 +1,4 @@
-// What a test asks, so that it keeps the conditions of the calls.
+// What a caller asks to keep the conditions of the calls.
 
 ghost use Rattle.std.specs.Prelude.{◌≡◌, ◌-◌, ◌^◌, ◌<◌, length, IsTrue};
 ghost use Rattle.sy_copies.specs.Current.{len_at, has_room};
