@@ -1,0 +1,17 @@
+//! The tree of a source, and the grammar that relates it to tokens.
+#![tactic(auto)]
+
+mod operators;
+mod parts;
+mod tree;
+
+pub use operators::{AssignmentOperator, Operator};
+pub use parts::{
+    AccessTag, Brackets, Capture, ConstSpecifier, ElementArguments, FunctionObject, IntegerType,
+    LambdaParameter, LambdaParameterType, Lexeme, LibraryFunction, ObjectType, Parameter, Qualified,
+    ReferenceType, ReturnType, Step, TemplateArgument, TypeSpecifier,
+};
+pub use tree::{
+    Argument, ArgumentList, Block, Constant, Declaration, Declarator, Expr, FileItem, ForInit,
+    FullExpression, Function, Initializer, Lambda, Printed, Stmt, Unit, ValueInitializer,
+};
