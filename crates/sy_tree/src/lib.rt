@@ -1,10 +1,12 @@
 //! The tree of a source, and the grammar that relates it to tokens.
 #![tactic(auto)]
 
+mod boxes;
 mod operators;
 mod parts;
 mod tree;
 
+pub use boxes::{boxed_expr, boxed_stmt};
 pub use operators::{AssignmentOperator, Operator};
 pub use parts::{
     AccessTag, Brackets, Capture, ConstSpecifier, ElementArguments, FunctionObject, IntegerType,

@@ -1,12 +1,11 @@
 //! Parts of the tree that hold no expression.
 
-use sqlite_items::Items;
 use sy_lex::Text;
 use sy_note::Spot;
 use sy_num::Kind;
 
 /// An identifier or a literal, as it is written.
-#[derive(Debug, Drop)]
+#[derive(Drop)]
 pub struct Lexeme {
     pub spot: Spot,
     pub text: Text,
@@ -45,14 +44,14 @@ pub enum ConstSpecifier {
 }
 
 /// The template arguments of a `buffer` or `local_accessor`: its elements' type, and its dimensions.
-#[derive(Debug, Drop)]
+#[derive(Drop)]
 pub struct ElementArguments {
     pub element: IntegerType,
     pub dimensions: Option<Lexeme>,
 }
 
 /// The type of an object of the library. The dimensions of a range, id or nd_range may be left out.
-#[derive(Debug, Drop)]
+#[derive(Drop)]
 pub enum ObjectType {
     Queue(Qualified),
     Device(Qualified),
@@ -68,7 +67,7 @@ pub enum ObjectType {
 }
 
 /// The type of an object that is passed by reference.
-#[derive(Debug, Drop)]
+#[derive(Drop)]
 pub enum ReferenceType {
     Queue(Qualified),
     Device(Qualified),
@@ -77,14 +76,14 @@ pub enum ReferenceType {
 }
 
 /// A parameter of a function. The flag says whether it is const.
-#[derive(Debug, Drop)]
+#[derive(Drop)]
 pub enum Parameter {
     Integer(bool, IntegerType, Lexeme),
     Object(ReferenceType, Lexeme),
     Vector(bool, Qualified, IntegerType, Lexeme),
 }
 
-#[derive(Debug, Drop)]
+#[derive(Drop)]
 pub enum Capture {
     DefaultReference(Spot),
     DefaultCopy(Spot),
@@ -92,7 +91,7 @@ pub enum Capture {
     Copy(Lexeme),
 }
 
-#[derive(Debug, Drop)]
+#[derive(Drop)]
 pub enum LambdaParameterType {
     Handler(Qualified),
     Auto(Spot),
@@ -101,7 +100,7 @@ pub enum LambdaParameterType {
     NdItem(Qualified, Lexeme),
 }
 
-#[derive(Debug, Drop)]
+#[derive(Drop)]
 pub struct LambdaParameter {
     pub of: LambdaParameterType,
     pub by_reference: bool,
@@ -110,7 +109,7 @@ pub struct LambdaParameter {
 
 /// The template argument of a member: the name of a kernel, written with `class` or without, or a
 /// property of the namespace `info`.
-#[derive(Debug, Drop)]
+#[derive(Drop)]
 pub enum TemplateArgument {
     Kernel(bool, Lexeme),
     Information(Qualified, Lexeme, Lexeme),

@@ -27,13 +27,19 @@ pub enum Expr {
     FunctionalCast(IntegerType, Boxed<Expr>, Spot),
     Construct(ObjectType, ArgumentList),
     GroupBarrier(Qualified, Boxed<Expr>, Spot),
-    Access(Qualified, AccessTag),
+    AccessTag(Qualified, AccessTag),
     /// `property::queue::in_order`.
     InOrder(Qualified, Brackets, Spot),
     ErrorCode(Qualified, Lexeme),
     /// `property::reduction::initialize_to_identity`.
     InitializeToIdentity(Qualified, Brackets, Spot),
-    Combine(Qualified, FunctionObject, Option<IntegerType>, Brackets, Spot),
+    FunctionObject(
+        Qualified,
+        FunctionObject,
+        Option<IntegerType>,
+        Brackets,
+        Spot,
+    ),
     LibraryCall(Qualified, LibraryFunction, Items<Argument>, Spot),
     Subscript(Boxed<Expr>, Spot, Boxed<Expr>, Spot),
     MemberCall(
@@ -90,7 +96,7 @@ pub struct Block {
 #[cycle(tree)]
 #[derive(Drop)]
 pub enum FullExpression {
-    Value(Expr),
+    Plain(Expr),
     Assignment(Expr, Spot, AssignmentOperator, Expr),
 }
 
@@ -113,8 +119,8 @@ pub struct Declarator {
 #[cycle(tree)]
 #[derive(Drop)]
 pub enum Initializer {
-    Equal(Spot, Expr),
-    List(ArgumentList),
+    Copy(Spot, Expr),
+    Direct(ArgumentList),
 }
 
 /// A declaration, up to its `;`.
@@ -138,7 +144,7 @@ pub enum Declaration {
 #[cycle(tree)]
 #[derive(Drop)]
 pub enum Printed {
-    Value(Spot, Expr),
+    Operand(Spot, Expr),
     Text(Spot, Lexeme),
     EndLine(Spot, Qualified),
 }
@@ -146,16 +152,16 @@ pub enum Printed {
 #[cycle(tree)]
 #[derive(Drop)]
 pub enum ForInit {
-    Empty,
-    Expression(FullExpression),
-    Declaration(Declaration),
+    Omitted,
+    Evaluate(FullExpression),
+    Declare(Declaration),
 }
 
 #[cycle(tree)]
 #[derive(Drop)]
 pub enum Stmt {
-    Block(Block),
-    Empty(Spot),
+    Compound(Block),
+    Null(Spot),
     Declaration(Declaration),
     Expression(FullExpression, Spot),
     Print(Qualified, Items<Printed>, Spot),
