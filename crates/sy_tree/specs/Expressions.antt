@@ -11,10 +11,9 @@ use Rattle.sy_tree.specs.declared.tree.Expr.{Expr}
 use Rattle.sy_tree.specs.declared.tree.FullExpression.{FullExpression}
 use Rattle.sy_tree.specs.declared.tree.Lambda.{Lambda}
 use Rattle.sy_tree.specs.declared.tree.Stmt.{Stmt}
-use Rattle.sy_tree.specs.declared.parts.LambdaParameter.{LambdaParameter}
 use Rattle.sy_tree.specs.Layers.{ArgumentLayer, ArgumentListLayer, ExprLayer, LambdaLayer}
 use Rattle.sy_tree.specs.Lists.{Rule, Optional, Listed, MaybeListed}
-use Rattle.sy_tree.specs.Types.{Integral, OneWordIntegral, Object, Captured, OneLambdaParameter, TemplateArguments}
+use Rattle.sy_tree.specs.Types.{Integral, OneWordIntegral, Object, Captured, LambdaParameters, TemplateArguments}
 use Rattle.sy_tree.specs.Words.{At, Sees, Lexed, Identifier, Sycl, mark, keyword, identifier, spelling, level, unary_spelling, step_spelling, opening, closing, tag_spelling, object_spelling, function_spelling}
 
 -- What counts for the height of a tree. An expression is given with the loosest level at which it may stand: 1 where any
@@ -133,11 +132,6 @@ module _ (Sub : Rule Node) where
   -- lor "?" expr ":" expr
   ExprRule least (Expr-F.Conditional a s b c) from rest = (least ≤ 1) × ((m k i j : List Token) ×
       Sub (an_expr 2 a) from m × At (mark "?") s m k × AnyExpr b k i × Sees (mark ":") i j × AnyExpr c j rest)
-
-  -- "(" list(lparam)? ")"
-  abbrev pub LambdaParameters : Rule (List LambdaParameter)
-  LambdaParameters ps from rest = (m k : List Token) ×
-      Sees (mark "(") from m × MaybeListed OneLambdaParameter ps m k × Sees (mark ")") k rest
 
   -- "[" list(cap)? "]" ("(" list(lparam)? ")")? block
   abbrev pub LambdaRule : LambdaLayer → List Token → List Token → Type 0

@@ -25,7 +25,7 @@ use Rattle.sy_tree.specs.declared.parts.TemplateArgument.{TemplateArgument}
 use Rattle.sy_tree.specs.declared.parts.TemplateArgument.TheVariants as template
 use Rattle.sy_tree.specs.declared.parts.TypeSpecifier.{TypeSpecifier}
 use Rattle.sy_tree.specs.declared.parts.TypeSpecifier.TheVariants as specifier
-use Rattle.sy_tree.specs.Lists.{Rule, Maybe, Optional}
+use Rattle.sy_tree.specs.Lists.{Rule, Maybe, Optional, MaybeListed}
 use Rattle.sy_tree.specs.Words.{At, Sees, Lexed, Identifier, Sycl, Std, mark, keyword, spellings, SpelledAs, takes_template_argument}
 
 -- ---- integer types
@@ -129,6 +129,11 @@ LambdaParameterTyped (lambda.NdItem q x) from rest = (m : List Token) × Sycl "n
 abbrev pub OneLambdaParameter : Rule LambdaParameter
 OneLambdaParameter p from rest = (m k : List Token) ×
     LambdaParameterTyped p.of from m × Maybe (mark "&") p.by_reference m k × Identifier p.name k rest
+
+-- "(" list(lparam)? ")"
+abbrev pub LambdaParameters : Rule (List LambdaParameter)
+LambdaParameters ps from rest = (m k : List Token) ×
+    Sees (mark "(") from m × MaybeListed OneLambdaParameter ps m k × Sees (mark ")") k rest
 
 -- ---- template arguments of members
 
