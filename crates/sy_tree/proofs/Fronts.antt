@@ -38,19 +38,12 @@ use Rattle.sy_tree.specs.declared.tree.Stmt.{Stmt, out-Stmt}
 use Rattle.sy_tree.specs.declared.tree.ValueInitializer.{ValueInitializer, out-ValueInitializer}
 use Rattle.sy_tree.specs.Declarations.{ValueInitializerRule, ValueInitialized, OneDeclarator, InitializerRule, Initialized, DeclarationRule}
 use Rattle.sy_tree.specs.Expressions.{Node, an_expr, a_lambda, a_declaration, a_full, a_block, a_stmt, AnyExpr, InParentheses, ArgumentRule, OneArgument, BracketedArguments, ExprRule, LambdaRule}
-use Rattle.sy_tree.specs.Grammar.{NodeRule}
+use Rattle.sy_tree.specs.Grammar.{NodeRule, Passes}
 use Rattle.sy_tree.specs.Layers.{ArgumentLayer, ArgumentListLayer, BlockLayer, DeclarationLayer, ExprLayer, ForInitLayer, FullExpressionLayer, InitializerLayer, LambdaLayer, PrintedLayer, StmtLayer, ValueInitializerLayer}
 use Rattle.sy_tree.specs.Lists.{Rule, Maybe, Optional, Each, OneOrMore, Listed, MaybeListed}
 use Rattle.sy_tree.specs.Statements.{Substatement, AnyFull, BlockRule, FullRule, PrintedRule, OnePrinted, ForInitRule, StmtRule}
 use Rattle.sy_tree.specs.Types.{Integral, OneWordIntegral, TypeSpecified, ConstSpecified, Dimensions, CommaDimensions, Elements, Object, VectorOf, Captured, LambdaParameterTyped, OneLambdaParameter, LambdaParameters, OneTemplateArgument, TemplateArguments}
 use Rattle.sy_tree.specs.Words.{At, Sees, Spelled, SpelledAs, spellings, mark, keyword}
-
--- `rest` is `from` without its first tokens, so many at least
-pub record Passes (least : ℕ) (from rest : List Token) : Type 0 where
-  pub taken : ℕ
-  pub enough : least ≤ taken
-  pub within : taken ≤ length from
-  pub is : rest ≡ drop taken from
 
 abbrev pub Takes : {A : Type 0} → Rule A → Type 0
 Takes {A} P = (x : A) (from rest : List Token) → P x from rest → Passes 1 from rest

@@ -4,9 +4,9 @@ use Rattle.sy_lex.specs.declared.Token.{Token}
 use Rattle.sy_tree.specs.declared.tree.Expr.{Expr, out-Expr}
 use Rattle.sy_tree.specs.Beginnings.{opens, first}
 use Rattle.sy_tree.specs.Expressions.{Node, an_expr}
-use Rattle.sy_tree.specs.Grammar.{NodeRule, Derives}
+use Rattle.sy_tree.specs.Grammar.{NodeRule, Derives, Passes}
 use Rattle.sy_tree.proofs.Begins.{NodeRule-begins}
-use Rattle.sy_tree.proofs.Fronts.{Passes, NodeRule-takes}
+use Rattle.sy_tree.proofs.Fronts.{NodeRule-takes}
 use Rattle.sy_tree.proofs.Maps.{NodeRule-map, ExprRule-looser}
 
 pub Derives-taller : (n m : ℕ) → n ≤ m → (x : Node) (from rest : List Token) → Derives n x from rest → Derives m x from rest

@@ -1,5 +1,5 @@
 -- Which tokens are which tree, for every sort of node.
-use Rattle.std.specs.Prelude.{ℕ, zero, suc, List}
+use Rattle.std.specs.Prelude.{◌≡◌, ℕ, zero, suc, ◌≤◌, List, length, drop}
 use Rattle.sy_lex.specs.declared.Token.{Token}
 use Rattle.sy_tree.specs.declared.tree.Block.{out-Block}
 use Rattle.sy_tree.specs.declared.tree.Declaration.{out-Declaration}
@@ -29,3 +29,10 @@ Derives (suc n) x from rest = NodeRule (Derives n) x from rest
 -- the greatest height of a tree
 abbrev pub max_height : ℕ
 max_height = 64
+
+-- `rest` is `from` without its first tokens, so many at least
+pub record Passes (least : ℕ) (from rest : List Token) : Type 0 where
+  pub taken : ℕ
+  pub enough : least ≤ taken
+  pub within : taken ≤ length from
+  pub is : rest ≡ drop taken from

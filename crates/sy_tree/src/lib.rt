@@ -2,6 +2,7 @@
 #![tactic(auto)]
 
 mod boxes;
+pub mod laws;
 mod operators;
 mod parts;
 mod tree;
