@@ -28,7 +28,7 @@ use Rattle.sy_tree.specs.declared.tree.Lambda.{out-Lambda}
 use Rattle.sy_tree.specs.declared.tree.Stmt.{Stmt, out-Stmt}
 use Rattle.sy_tree.specs.Beginnings.{opens_type, opens_expr, opens_declaration, opens_stmt, opens, first}
 use Rattle.sy_tree.specs.Declarations.{DeclarationRule}
-use Rattle.sy_tree.specs.Expressions.{Node, an_expr, a_lambda, a_declaration, a_full, a_block, a_stmt, ExprRule, LambdaRule}
+use Rattle.sy_tree.specs.Expressions.{Node, an_expr, a_lambda, a_full, a_block, a_stmt, ExprRule, LambdaRule}
 use Rattle.sy_tree.specs.Grammar.{NodeRule}
 use Rattle.sy_tree.specs.Layers.{BlockLayer, DeclarationLayer, ExprLayer, FullExpressionLayer, LambdaLayer, StmtLayer}
 use Rattle.sy_tree.specs.Lists.{Rule}
@@ -177,7 +177,7 @@ module _ (S : Rule Node) (f : Begins S) where
   expr least (Expr-F.Parenthesized s x e) from rest h = at_first opens_expr h.2 refl
   expr least (Expr-F.StaticCast s t x e) from rest h = at_first opens_expr h.6 refl
   expr least (Expr-F.FunctionalCast t x e) from rest h = integral_expr t from _ h.3.0
-  expr least (Expr-F.Construct t l) from rest h = object_type opens_expr sycl_opens t from _ h.1
+  expr least (Expr-F.Construct t b s xs e) from rest h = object_type opens_expr sycl_opens t from _ h.1
   expr least (Expr-F.GroupBarrier q x e) from rest h = of_library h.3.2
   expr least (Expr-F.AccessTag q t) from rest h = of_library h.2
   expr least (Expr-F.InOrder q b e) from rest h = of_library h.6.2
@@ -230,7 +230,6 @@ module _ (S : Rule Node) (f : Begins S) where
   unfolding mark
   NodeRule-begins (an_expr least x) from rest h = expr least (out-Expr x) from rest h
   NodeRule-begins (a_lambda l) from rest h = at_first (opens (a_lambda l)) h.4 refl
-  NodeRule-begins (a_declaration d) from rest h = declaration (out-Declaration d) from rest h
   NodeRule-begins (a_full x) from rest h = full (out-FullExpression x) from rest h
   NodeRule-begins (a_block b) from rest h = at_first (opens (a_block b)) h.2 refl
   NodeRule-begins (a_stmt x) from rest h = stmt (out-Stmt x) from rest h

@@ -5,6 +5,7 @@ use Rattle.sy_lex.specs.declared.Row.{Row}
 use Rattle.sy_lex.specs.declared.Token.{Token}
 use Rattle.sy_lex.specs.declared.Word.{Word}
 use Rattle.sy_note.specs.declared.Spot.{Spot}
+use Rattle.sy_tree.specs.declared.parts.Brackets.{Brackets}
 use Rattle.sy_tree.specs.declared.parts.Capture.{Capture}
 use Rattle.sy_tree.specs.declared.parts.Capture.TheVariants as capture
 use Rattle.sy_tree.specs.declared.parts.ConstSpecifier.{ConstSpecifier}
@@ -23,25 +24,22 @@ use Rattle.sy_tree.specs.declared.parts.TemplateArgument.TheVariants as template
 use Rattle.sy_tree.specs.declared.parts.TypeSpecifier.{TypeSpecifier}
 use Rattle.sy_tree.specs.declared.parts.TypeSpecifier.TheVariants as specifier
 use Rattle.sy_tree.specs.declared.tree.Argument.{Argument, out-Argument}
-use Rattle.sy_tree.specs.declared.tree.Argument.TheOpen.{Argument-F, Declaration-F, Expr-F, ForInit-F, FullExpression-F, Initializer-F, Printed-F, Stmt-F, ValueInitializer-F}
-use Rattle.sy_tree.specs.declared.tree.ArgumentList.{out-ArgumentList}
+use Rattle.sy_tree.specs.declared.tree.Argument.TheOpen.{Argument-F, Declaration-F, Declarator-F, Expr-F, FullExpression-F, Initializer-F, Printed-F, Stmt-F}
 use Rattle.sy_tree.specs.declared.tree.Block.{out-Block}
 use Rattle.sy_tree.specs.declared.tree.Declaration.{out-Declaration}
 use Rattle.sy_tree.specs.declared.tree.Declarator.{Declarator, out-Declarator}
 use Rattle.sy_tree.specs.declared.tree.Expr.{Expr, out-Expr}
-use Rattle.sy_tree.specs.declared.tree.ForInit.{out-ForInit}
 use Rattle.sy_tree.specs.declared.tree.FullExpression.{FullExpression, out-FullExpression}
 use Rattle.sy_tree.specs.declared.tree.Initializer.{Initializer, out-Initializer}
 use Rattle.sy_tree.specs.declared.tree.Lambda.{out-Lambda}
 use Rattle.sy_tree.specs.declared.tree.Printed.{Printed, out-Printed}
 use Rattle.sy_tree.specs.declared.tree.Stmt.{Stmt, out-Stmt}
-use Rattle.sy_tree.specs.declared.tree.ValueInitializer.{ValueInitializer, out-ValueInitializer}
-use Rattle.sy_tree.specs.Declarations.{ValueInitializerRule, ValueInitialized, OneDeclarator, InitializerRule, Initialized, DeclarationRule}
-use Rattle.sy_tree.specs.Expressions.{Node, an_expr, a_lambda, a_declaration, a_full, a_block, a_stmt, AnyExpr, InParentheses, ArgumentRule, OneArgument, BracketedArguments, ExprRule, LambdaRule}
+use Rattle.sy_tree.specs.Declarations.{DeclaratorRule, OneDeclarator, InitializerRule, Initialized, DeclarationRule}
+use Rattle.sy_tree.specs.Expressions.{Node, an_expr, a_lambda, a_full, a_block, a_stmt, AnyExpr, InParentheses, ArgumentRule, OneArgument, BracketedArguments, ExprRule, LambdaRule}
 use Rattle.sy_tree.specs.Grammar.{NodeRule, Passes}
-use Rattle.sy_tree.specs.Layers.{ArgumentLayer, ArgumentListLayer, BlockLayer, DeclarationLayer, ExprLayer, ForInitLayer, FullExpressionLayer, InitializerLayer, LambdaLayer, PrintedLayer, StmtLayer, ValueInitializerLayer}
+use Rattle.sy_tree.specs.Layers.{ArgumentLayer, BlockLayer, DeclarationLayer, DeclaratorLayer, ExprLayer, FullExpressionLayer, InitializerLayer, LambdaLayer, PrintedLayer, StmtLayer}
 use Rattle.sy_tree.specs.Lists.{Rule, Maybe, Optional, Each, OneOrMore, Listed, MaybeListed}
-use Rattle.sy_tree.specs.Statements.{Substatement, AnyFull, BlockRule, FullRule, PrintedRule, OnePrinted, ForInitRule, StmtRule}
+use Rattle.sy_tree.specs.Statements.{Substatement, AnyFull, BlockRule, FullRule, PrintedRule, OnePrinted, InitStatement, StmtRule}
 use Rattle.sy_tree.specs.Types.{Integral, OneWordIntegral, TypeSpecified, ConstSpecified, Dimensions, CommaDimensions, Elements, Object, VectorOf, Captured, LambdaParameterTyped, OneLambdaParameter, LambdaParameters, OneTemplateArgument, TemplateArguments}
 use Rattle.sy_tree.specs.Words.{At, Sees, Spelled, SpelledAs, spellings, mark, keyword}
 
@@ -198,8 +196,9 @@ module _ (S : Rule Node) (f : Takes S) where
   one_argument : Takes (OneArgument S)
   one_argument a from rest h = argument (out-Argument a) from rest h
 
-  bracketed : (l : ArgumentListLayer) (from rest : List Token) → BracketedArguments S l from rest → Passes 1 from rest
-  bracketed l from rest h = at_least 1 (omega arith) (token h.2 >> maybe_listed _ one_argument l.arguments h.3 >> token h.4)
+  bracketed : (b : Brackets) (s : Spot) (xs : List Argument) (e : Spot) {from rest : List Token} →
+      BracketedArguments S b s xs e from rest → Passes 1 from rest
+  bracketed b s xs e h = at_least 1 (omega arith) (token h.2 >> maybe_listed _ one_argument xs h.3 >> token h.4)
 
   expr : (least : ℕ) (x : ExprLayer) (from rest : List Token) → ExprRule S least x from rest → Passes 1 from rest
   expr least (Expr-F.Integer x) from rest h = token h
@@ -214,8 +213,8 @@ module _ (S : Rule Node) (f : Takes S) where
       at_least 1 (omega arith) (token h.6 >> sees h.7 >> integral t h.1 h.2 h.8 >> sees h.9 >> sees h.10 >> any_expr x h.4 h.5 h.11 >> token h.12)
   expr least (Expr-F.FunctionalCast t x e) from rest h =
       at_least 1 (omega arith) (integral t from h.0 h.3.0 >> sees h.4 >> any_expr x h.1 h.2 h.5 >> token h.6)
-  expr least (Expr-F.Construct t l) from rest h =
-      at_least 1 (omega arith) (object_type t from h.0 h.1 >> bracketed (out-ArgumentList l) h.0 rest h.2)
+  expr least (Expr-F.Construct t b s xs e) from rest h =
+      at_least 1 (omega arith) (object_type t from h.0 h.1 >> bracketed b s xs e h.2)
   expr least (Expr-F.GroupBarrier q x e) from rest h =
       at_least 1 (omega arith) (name h.3 >> sees h.4 >> any_expr x h.1 h.2 h.5 >> token h.6)
   expr least (Expr-F.AccessTag q t) from rest h = name h
@@ -247,28 +246,25 @@ module _ (S : Rule Node) (f : Takes S) where
       at_least 1 (omega arith) (token h.4 >> maybe_listed _ captured l.captures h.5 >> sees h.6 >> optional _ lambda_parameters l.parameters h.7 >>
       f (a_block l.body) h.3 rest h.8)
 
-  value_initializer : (x : ValueInitializerLayer) (from rest : List Token) → ValueInitializerRule S x from rest → Passes 1 from rest
-  value_initializer (ValueInitializer-F.Equal s x) from rest h = at_least 1 (omega arith) (token h.1 >> any_expr x h.0 rest h.2)
-  value_initializer (ValueInitializer-F.Bracketed b s x e) from rest h =
-      at_least 1 (omega arith) (token h.2 >> any_expr x h.0 h.1 h.3 >> token h.4)
+  declarator : (d : DeclaratorLayer) (from rest : List Token) → DeclaratorRule S d from rest → Passes 1 from rest
+  declarator (Declarator-F.Uninitialized x) from rest h = token h
+  declarator (Declarator-F.Equal x s v) from rest h = at_least 1 (omega arith) (token h.2 >> token h.3 >> any_expr v h.1 rest h.4)
+  declarator (Declarator-F.Bracketed x b s v e) from rest h =
+      at_least 1 (omega arith) (token h.3 >> token h.4 >> any_expr v h.1 h.2 h.5 >> token h.6)
 
-  value_initialized : Takes (ValueInitialized S)
-  value_initialized x from rest h = value_initializer (out-ValueInitializer x) from rest h
-
-  declarator : Takes (OneDeclarator S)
-  declarator d from rest h =
-      at_least 1 (omega arith) (token h.1 >> optional _ value_initialized (out-Declarator d).initializer h.2)
+  one_declarator : Takes (OneDeclarator S)
+  one_declarator d from rest h = declarator (out-Declarator d) from rest h
 
   initializer : (x : InitializerLayer) (from rest : List Token) → InitializerRule S x from rest → Passes 1 from rest
   initializer (Initializer-F.Copy s x) from rest h = at_least 1 (omega arith) (token h.1 >> any_expr x h.0 rest h.2)
-  initializer (Initializer-F.Direct l) from rest h = bracketed (out-ArgumentList l) from rest h.1
+  initializer (Initializer-F.Direct b s xs e) from rest h = bracketed b s xs e h.1
 
   initialized : Takes (Initialized S)
   initialized x from rest h = initializer (out-Initializer x) from rest h
 
   declaration : (d : DeclarationLayer) (from rest : List Token) → DeclarationRule S d from rest → Passes 1 from rest
   declaration (Declaration-F.Integers c t ds e) from rest h =
-      at_least 1 (omega arith) (optional _ const_specified c h.3 >> type_specified t h.0 h.1 h.4 >> listed _ declarator ds h.5 >> token h.6)
+      at_least 1 (omega arith) (optional _ const_specified c h.3 >> type_specified t h.0 h.1 h.4 >> listed _ one_declarator ds h.5 >> token h.6)
   declaration (Declaration-F.Vector q t x v e) from rest h =
       at_least 1 (omega arith) (vector_of q t from h.0 h.3 >> token h.4 >> optional _ initialized v h.5 >> token h.6)
   declaration (Declaration-F.DeviceVector q x v e) from rest h =
@@ -302,10 +298,8 @@ module _ (S : Rule Node) (f : Takes S) where
   one_printed : Takes (OnePrinted S)
   one_printed x from rest h = printed (out-Printed x) from rest h
 
-  for_init : (x : ForInitLayer) (from rest : List Token) → ForInitRule S x from rest → Passes 1 from rest
-  for_init ForInit-F.Omitted from rest h = sees h
-  for_init (ForInit-F.Evaluate x) from rest h = at_least 1 (omega arith) (any_full x from h.0 h.1 >> sees h.2)
-  for_init (ForInit-F.Declare d) from rest h = f (a_declaration d) from rest h
+  init_statement : Takes (InitStatement S)
+  init_statement x from rest h = substatement x from rest h.1
 
   stmt : (x : StmtLayer) (from rest : List Token) → StmtRule S x from rest → Passes 1 from rest
   stmt (Stmt-F.Compound b) from rest h = block (out-Block b) from rest h
@@ -325,7 +319,7 @@ module _ (S : Rule Node) (f : Takes S) where
   stmt (Stmt-F.Do s x c e) from rest h =
       at_least 1 (omega arith) (token h.4 >> substatement x h.0 h.1 h.5 >> sees h.6 >> in_parentheses c h.2 h.3 h.7 >> token h.8)
   stmt (Stmt-F.For s a c b x) from rest h =
-      at_least 1 (omega arith) (token h.7 >> sees h.8 >> for_init (out-ForInit a) h.1 h.2 h.9 >> optional _ any_expr c h.10 >> sees h.11 >>
+      at_least 1 (omega arith) (token h.7 >> sees h.8 >> init_statement a h.1 h.2 h.9 >> optional _ any_expr c h.10 >> sees h.11 >>
       optional _ any_full b h.12 >> sees h.13 >> substatement x h.6 rest h.14)
   stmt (Stmt-F.RangeFor s fixed t by_reference x range y) from rest h =
       at_least 1 (omega arith) (token h.8 >> sees h.9 >> maybe (keyword "const") fixed h.10 >> type_specified t h.2 h.3 h.11 >> maybe (mark "&") by_reference h.12 >>
@@ -337,7 +331,6 @@ module _ (S : Rule Node) (f : Takes S) where
   pub NodeRule-takes : Takes (NodeRule S)
   NodeRule-takes (an_expr least x) from rest h = expr least (out-Expr x) from rest h
   NodeRule-takes (a_lambda l) from rest h = lambda_node (out-Lambda l) from rest h
-  NodeRule-takes (a_declaration d) from rest h = declaration (out-Declaration d) from rest h
   NodeRule-takes (a_full x) from rest h = full (out-FullExpression x) from rest h
   NodeRule-takes (a_block b) from rest h = block (out-Block b) from rest h
   NodeRule-takes (a_stmt x) from rest h = stmt (out-Stmt x) from rest h

@@ -1,26 +1,25 @@
 -- A rule over other nodes: what is said of more of them says more.
 use Rattle.std.proofs.Common.{◌≡◌, ℕ, zero, suc, ◌≤◌, Bool, true, false, List, [], ◌∷◌, Option, Some, None, le_trans}
 use Rattle.sy_lex.specs.declared.Token.{Token}
+use Rattle.sy_note.specs.declared.Spot.{Spot}
+use Rattle.sy_tree.specs.declared.parts.Brackets.{Brackets}
 use Rattle.sy_tree.specs.declared.tree.Argument.{Argument, out-Argument}
-use Rattle.sy_tree.specs.declared.tree.Argument.TheOpen.{Argument-F, Declaration-F, Expr-F, ForInit-F, FullExpression-F, Initializer-F, Printed-F, Stmt-F, ValueInitializer-F}
-use Rattle.sy_tree.specs.declared.tree.ArgumentList.{out-ArgumentList}
+use Rattle.sy_tree.specs.declared.tree.Argument.TheOpen.{Argument-F, Declaration-F, Declarator-F, Expr-F, FullExpression-F, Initializer-F, Printed-F, Stmt-F}
 use Rattle.sy_tree.specs.declared.tree.Block.{out-Block}
 use Rattle.sy_tree.specs.declared.tree.Declaration.{out-Declaration}
 use Rattle.sy_tree.specs.declared.tree.Declarator.{Declarator, out-Declarator}
 use Rattle.sy_tree.specs.declared.tree.Expr.{Expr, out-Expr}
-use Rattle.sy_tree.specs.declared.tree.ForInit.{out-ForInit}
 use Rattle.sy_tree.specs.declared.tree.FullExpression.{FullExpression, out-FullExpression}
 use Rattle.sy_tree.specs.declared.tree.Initializer.{Initializer, out-Initializer}
 use Rattle.sy_tree.specs.declared.tree.Lambda.{out-Lambda}
 use Rattle.sy_tree.specs.declared.tree.Printed.{Printed, out-Printed}
 use Rattle.sy_tree.specs.declared.tree.Stmt.{Stmt, out-Stmt}
-use Rattle.sy_tree.specs.declared.tree.ValueInitializer.{ValueInitializer, out-ValueInitializer}
-use Rattle.sy_tree.specs.Declarations.{ValueInitializerRule, ValueInitialized, OneDeclarator, InitializerRule, Initialized, DeclarationRule}
-use Rattle.sy_tree.specs.Expressions.{Node, an_expr, a_lambda, a_declaration, a_full, a_block, a_stmt, AnyExpr, InParentheses, ArgumentRule, OneArgument, BracketedArguments, ExprRule, LambdaRule}
+use Rattle.sy_tree.specs.Declarations.{DeclaratorRule, OneDeclarator, InitializerRule, Initialized, DeclarationRule}
+use Rattle.sy_tree.specs.Expressions.{Node, an_expr, a_lambda, a_full, a_block, a_stmt, AnyExpr, InParentheses, ArgumentRule, OneArgument, BracketedArguments, ExprRule, LambdaRule}
 use Rattle.sy_tree.specs.Grammar.{NodeRule}
-use Rattle.sy_tree.specs.Layers.{ArgumentLayer, ArgumentListLayer, BlockLayer, DeclarationLayer, ExprLayer, ForInitLayer, FullExpressionLayer, InitializerLayer, LambdaLayer, PrintedLayer, StmtLayer, ValueInitializerLayer}
+use Rattle.sy_tree.specs.Layers.{ArgumentLayer, BlockLayer, DeclarationLayer, DeclaratorLayer, ExprLayer, FullExpressionLayer, InitializerLayer, LambdaLayer, PrintedLayer, StmtLayer}
 use Rattle.sy_tree.specs.Lists.{Rule, Optional, Each, OneOrMore, Listed, MaybeListed}
-use Rattle.sy_tree.specs.Statements.{Substatement, AnyFull, BlockRule, FullRule, PrintedRule, OnePrinted, ForInitRule, StmtRule}
+use Rattle.sy_tree.specs.Statements.{Substatement, AnyFull, BlockRule, FullRule, PrintedRule, OnePrinted, InitStatement, StmtRule}
 
 -- what stands by one rule stands by the other
 abbrev pub Implies : {A : Type 0} → Rule A → Rule A → Type 0
@@ -63,8 +62,9 @@ module _ (S T : Rule Node) (f : Implies S T) where
   one_argument : Implies (OneArgument S) (OneArgument T)
   one_argument a from rest h = argument (out-Argument a) from rest h
 
-  bracketed : (l : ArgumentListLayer) (from rest : List Token) → BracketedArguments S l from rest → BracketedArguments T l from rest
-  bracketed l from rest h = (h.0, h.1, h.2, MaybeListed-map _ _ one_argument l.arguments h.0 h.1 h.3, h.4)
+  bracketed : (b : Brackets) (s : Spot) (xs : List Argument) (e : Spot) (from rest : List Token) →
+      BracketedArguments S b s xs e from rest → BracketedArguments T b s xs e from rest
+  bracketed b s xs e from rest h = (h.0, h.1, h.2, MaybeListed-map _ _ one_argument xs h.0 h.1 h.3, h.4)
 
   expr : (least : ℕ) (x : ExprLayer) (from rest : List Token) → ExprRule S least x from rest → ExprRule T least x from rest
   expr least (Expr-F.Integer x) from rest h = h
@@ -77,7 +77,7 @@ module _ (S T : Rule Node) (f : Implies S T) where
   expr least (Expr-F.StaticCast s t x e) from rest h =
       (h.0, h.1, h.2, h.3, h.4, h.5, h.6, h.7, h.8, h.9, h.10, any_expr x h.4 h.5 h.11, h.12)
   expr least (Expr-F.FunctionalCast t x e) from rest h = (h.0, h.1, h.2, h.3, h.4, any_expr x h.1 h.2 h.5, h.6)
-  expr least (Expr-F.Construct t l) from rest h = (h.0, h.1, bracketed (out-ArgumentList l) h.0 rest h.2)
+  expr least (Expr-F.Construct t b s xs e) from rest h = (h.0, h.1, bracketed b s xs e h.0 rest h.2)
   expr least (Expr-F.GroupBarrier q x e) from rest h = (h.0, h.1, h.2, h.3, h.4, any_expr x h.1 h.2 h.5, h.6)
   expr least (Expr-F.AccessTag q t) from rest h = h
   expr least (Expr-F.InOrder q b e) from rest h = h
@@ -99,25 +99,23 @@ module _ (S T : Rule Node) (f : Implies S T) where
   lambda : (l : LambdaLayer) (from rest : List Token) → LambdaRule S l from rest → LambdaRule T l from rest
   lambda l from rest h = (h.0, h.1, h.2, h.3, h.4, h.5, h.6, h.7, f (a_block l.body) h.3 rest h.8)
 
-  value_initializer : (x : ValueInitializerLayer) (from rest : List Token) → ValueInitializerRule S x from rest → ValueInitializerRule T x from rest
-  value_initializer (ValueInitializer-F.Equal s x) from rest h = (h.0, h.1, any_expr x h.0 rest h.2)
-  value_initializer (ValueInitializer-F.Bracketed b s x e) from rest h = (h.0, h.1, h.2, any_expr x h.0 h.1 h.3, h.4)
+  declarator : (d : DeclaratorLayer) (from rest : List Token) → DeclaratorRule S d from rest → DeclaratorRule T d from rest
+  declarator (Declarator-F.Uninitialized x) from rest h = h
+  declarator (Declarator-F.Equal x s v) from rest h = (h.0, h.1, h.2, h.3, any_expr v h.1 rest h.4)
+  declarator (Declarator-F.Bracketed x b s v e) from rest h = (h.0, h.1, h.2, h.3, h.4, any_expr v h.1 h.2 h.5, h.6)
 
-  value_initialized : Implies (ValueInitialized S) (ValueInitialized T)
-  value_initialized x from rest h = value_initializer (out-ValueInitializer x) from rest h
-
-  declarator : Implies (OneDeclarator S) (OneDeclarator T)
-  declarator d from rest h = (h.0, h.1, Optional-map _ _ value_initialized (out-Declarator d).initializer h.0 rest h.2)
+  pub OneDeclarator-map : Implies (OneDeclarator S) (OneDeclarator T)
+  OneDeclarator-map d from rest h = declarator (out-Declarator d) from rest h
 
   initializer : (x : InitializerLayer) (from rest : List Token) → InitializerRule S x from rest → InitializerRule T x from rest
   initializer (Initializer-F.Copy s x) from rest h = (h.0, h.1, any_expr x h.0 rest h.2)
-  initializer (Initializer-F.Direct l) from rest h = (h.0, bracketed (out-ArgumentList l) from rest h.1)
+  initializer (Initializer-F.Direct b s xs e) from rest h = (h.0, bracketed b s xs e from rest h.1)
 
   initialized : Implies (Initialized S) (Initialized T)
   initialized x from rest h = initializer (out-Initializer x) from rest h
 
   declaration : (d : DeclarationLayer) (from rest : List Token) → DeclarationRule S d from rest → DeclarationRule T d from rest
-  declaration (Declaration-F.Integers c t ds e) from rest h = (h.0, h.1, h.2, h.3, h.4, Listed-map _ _ declarator ds h.1 h.2 h.5, h.6)
+  declaration (Declaration-F.Integers c t ds e) from rest h = (h.0, h.1, h.2, h.3, h.4, Listed-map _ _ OneDeclarator-map ds h.1 h.2 h.5, h.6)
   declaration (Declaration-F.Vector q t x v e) from rest h = (h.0, h.1, h.2, h.3, h.4, Optional-map _ _ initialized v h.1 h.2 h.5, h.6)
   declaration (Declaration-F.DeviceVector q x v e) from rest h =
       (h.0, h.1, h.2, h.3, h.4, h.5, h.6, h.7, h.8, h.9, h.10, h.11, Optional-map _ _ initialized v h.4 h.5 h.12, h.13)
@@ -147,10 +145,8 @@ module _ (S T : Rule Node) (f : Implies S T) where
   one_printed : Implies (OnePrinted S) (OnePrinted T)
   one_printed x from rest h = printed (out-Printed x) from rest h
 
-  for_init : (x : ForInitLayer) (from rest : List Token) → ForInitRule S x from rest → ForInitRule T x from rest
-  for_init ForInit-F.Omitted from rest h = h
-  for_init (ForInit-F.Evaluate x) from rest h = (h.0, any_full x from h.0 h.1, h.2)
-  for_init (ForInit-F.Declare d) from rest h = f (a_declaration d) from rest h
+  init_statement : Implies (InitStatement S) (InitStatement T)
+  init_statement x from rest h = (h.0, substatement x from rest h.1)
 
   stmt : (x : StmtLayer) (from rest : List Token) → StmtRule S x from rest → StmtRule T x from rest
   stmt (Stmt-F.Compound b) from rest h = block (out-Block b) from rest h
@@ -166,19 +162,48 @@ module _ (S T : Rule Node) (f : Implies S T) where
       (h.0, h.1, h.2, h.3, h.4, in_parentheses c h.0 h.1 h.5, substatement x h.1 h.2 h.6, h.7, substatement y h.3 rest h.8)
   stmt (Stmt-F.While s c x) from rest h = (h.0, h.1, h.2, in_parentheses c h.0 h.1 h.3, substatement x h.1 rest h.4)
   stmt (Stmt-F.Do s x c e) from rest h = (h.0, h.1, h.2, h.3, h.4, substatement x h.0 h.1 h.5, h.6, in_parentheses c h.2 h.3 h.7, h.8)
-  stmt (Stmt-F.For s a c b x) from rest h =
-      (h.0, h.1, h.2, h.3, h.4, h.5, h.6, h.7, h.8, for_init (out-ForInit a) h.1 h.2 h.9, Optional-map _ _ any_expr c h.2 h.3 h.10, h.11,
-      Optional-map _ _ any_full b h.4 h.5 h.12, h.13, substatement x h.6 rest h.14)
+  stmt (Stmt-F.For s a c b x) from rest h = (
+    h.0,
+    h.1,
+    h.2,
+    h.3,
+    h.4,
+    h.5,
+    h.6,
+    h.7,
+    h.8,
+    init_statement a h.1 h.2 h.9,
+    Optional-map _ _ any_expr c h.2 h.3 h.10,
+    h.11,
+    Optional-map _ _ any_full b h.4 h.5 h.12,
+    h.13,
+    substatement x h.6 rest h.14,
+  )
   stmt (Stmt-F.RangeFor s fixed t by_reference name range x) from rest h =
       (h.0, h.1, h.2, h.3, h.4, h.5, h.6, h.7, h.8, h.9, h.10, h.11, h.12, h.13, h.14, (h.15.0, h.15.1, h.15.2, substatement x h.7 rest h.15.3))
-  stmt (Stmt-F.Try s b name c) from rest h =
-      (h.0, h.1, h.2, h.3, h.4, h.5, h.6, h.7, h.8, h.9, f (a_block b) h.0 h.1 h.10, h.11, h.12, h.13, h.14, h.15,
-      (h.16.0, h.16.1, h.16.2, f (a_block c) h.7 rest h.16.3))
+  stmt (Stmt-F.Try s b name c) from rest h = (
+    h.0,
+    h.1,
+    h.2,
+    h.3,
+    h.4,
+    h.5,
+    h.6,
+    h.7,
+    h.8,
+    h.9,
+    f (a_block b) h.0 h.1 h.10,
+    h.11,
+    h.12,
+    h.13,
+    h.14,
+    h.15,
+    (h.16.0, h.16.1, h.16.2, f (a_block c) h.7 rest h.16.3),
+  )
 
   pub NodeRule-map : Implies (NodeRule S) (NodeRule T)
   NodeRule-map (an_expr least x) from rest h = expr least (out-Expr x) from rest h
   NodeRule-map (a_lambda l) from rest h = lambda (out-Lambda l) from rest h
-  NodeRule-map (a_declaration d) from rest h = declaration (out-Declaration d) from rest h
   NodeRule-map (a_full x) from rest h = full (out-FullExpression x) from rest h
   NodeRule-map (a_block b) from rest h = block (out-Block b) from rest h
   NodeRule-map (a_stmt x) from rest h = stmt (out-Stmt x) from rest h

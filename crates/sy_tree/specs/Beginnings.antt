@@ -7,7 +7,7 @@ use Rattle.sy_lex.specs.declared.Row.TheVariants as row
 use Rattle.sy_lex.specs.declared.Token.{Token}
 use Rattle.sy_lex.specs.declared.Word.{Word}
 use Rattle.sy_lex.specs.Rows.{type_words}
-use Rattle.sy_tree.specs.Expressions.{Node, an_expr, a_lambda, a_declaration, a_full, a_block, a_stmt}
+use Rattle.sy_tree.specs.Expressions.{Node, an_expr, a_lambda, a_full, a_block, a_stmt}
 use Rattle.sy_tree.specs.Qualification.{is_one_of}
 
 -- the first words of integer types
@@ -41,7 +41,6 @@ opens_stmt w = opens_expr w || opens_declaration w || is_one_of row.Mark (codes 
 abbrev pub opens : Node → Word → Bool
 opens (an_expr least x) w = opens_expr w
 opens (a_lambda l) w = is_one_of row.Mark (codes "[" ∷ []) w
-opens (a_declaration d) w = opens_declaration w
 opens (a_full x) w = opens_expr w
 opens (a_block b) w = is_one_of row.Mark (codes "{" ∷ []) w
 opens (a_stmt x) w = opens_stmt w

@@ -1,37 +1,33 @@
 -- Declarations and their initializers.
-use Rattle.std.specs.Prelude.{◌≡◌, ◌≢◌, List, [], ◌∷◌, Option, Some, None}
+use Rattle.std.specs.Prelude.{◌≡◌, List, [], ◌∷◌, Option, Some, None}
 use Rattle.sy_lex.specs.declared.Token.{Token}
-use Rattle.sy_tree.specs.declared.tree.Argument.TheOpen.{Declaration-F, Initializer-F, ValueInitializer-F}
-use Rattle.sy_tree.specs.declared.tree.ArgumentList.{out-ArgumentList}
+use Rattle.sy_tree.specs.declared.tree.Argument.TheOpen.{Declaration-F, Declarator-F, Initializer-F}
+use Rattle.sy_tree.specs.declared.tree.Argument.{Argument}
 use Rattle.sy_tree.specs.declared.tree.Declarator.{Declarator, out-Declarator}
 use Rattle.sy_tree.specs.declared.tree.Initializer.{Initializer, out-Initializer}
-use Rattle.sy_tree.specs.declared.tree.ValueInitializer.{ValueInitializer, out-ValueInitializer}
+use Rattle.sy_tree.specs.declared.parts.Brackets.{Brackets}
 use Rattle.sy_tree.specs.declared.parts.Brackets.TheVariants as brackets
 use Rattle.sy_tree.specs.declared.parts.Qualified.{Qualified}
 use Rattle.sy_tree.specs.Expressions.{Node, a_lambda, AnyExpr, BracketedArguments}
-use Rattle.sy_tree.specs.Layers.{ArgumentListLayer, DeclarationLayer, DeclaratorLayer, InitializerLayer, ValueInitializerLayer}
+use Rattle.sy_tree.specs.Layers.{DeclarationLayer, DeclaratorLayer, InitializerLayer}
 use Rattle.sy_tree.specs.Lists.{Rule, Optional, Listed}
 use Rattle.sy_tree.specs.Types.{Integral, Object, TypeSpecified, ConstSpecified, VectorOf}
 use Rattle.sy_tree.specs.Words.{At, Sees, Identifier, Std, Sycl, mark, opening, closing}
 
--- no parentheses without arguments, which would declare a function
-abbrev pub IsNoFunction : ArgumentListLayer → Type 0
-IsNoFunction l = l.brackets ≡ brackets.Parentheses → l.arguments ≢ []
+-- not "(" ")", which would declare a function
+abbrev pub IsNoFunction : Brackets → List Argument → Type 0
+IsNoFunction brackets.Parentheses [] = ⊥
+IsNoFunction _ _ = Unit
 
 module _ (Sub : Rule Node) where
-  abbrev pub ValueInitializerRule : ValueInitializerLayer → List Token → List Token → Type 0
-  -- "=" expr
-  ValueInitializerRule (ValueInitializer-F.Equal s x) from rest = (m : List Token) × At (mark "=") s from m × AnyExpr Sub x m rest
-  -- "{" expr "}" | "(" expr ")"
-  ValueInitializerRule (ValueInitializer-F.Bracketed b s x e) from rest = (m k : List Token) ×
-      At (mark (opening b)) s from m × AnyExpr Sub x m k × At (mark (closing b)) e k rest
-
-  abbrev pub ValueInitialized : Rule ValueInitializer
-  ValueInitialized x from rest = ValueInitializerRule (out-ValueInitializer x) from rest
-
-  -- IDENT ("=" expr | "{" expr "}" | "(" expr ")")?
   abbrev pub DeclaratorRule : DeclaratorLayer → List Token → List Token → Type 0
-  DeclaratorRule d from rest = (m : List Token) × Identifier d.name from m × Optional ValueInitialized d.initializer m rest
+  -- IDENT
+  DeclaratorRule (Declarator-F.Uninitialized x) from rest = Identifier x from rest
+  -- IDENT "=" expr
+  DeclaratorRule (Declarator-F.Equal x s v) from rest = (m k : List Token) × Identifier x from m × At (mark "=") s m k × AnyExpr Sub v k rest
+  -- IDENT "{" expr "}" | IDENT "(" expr ")"
+  DeclaratorRule (Declarator-F.Bracketed x b s v e) from rest = (m k i : List Token) ×
+      Identifier x from m × At (mark (opening b)) s m k × AnyExpr Sub v k i × At (mark (closing b)) e i rest
 
   -- kdecl
   abbrev pub OneDeclarator : Rule Declarator
@@ -41,7 +37,7 @@ module _ (Sub : Rule Node) where
   -- "=" expr
   InitializerRule (Initializer-F.Copy s x) from rest = (m : List Token) × At (mark "=") s from m × AnyExpr Sub x m rest
   -- "(" list(arg) ")" | "{" list(arg)? "}"
-  InitializerRule (Initializer-F.Direct l) from rest = IsNoFunction (out-ArgumentList l) × BracketedArguments Sub (out-ArgumentList l) from rest
+  InitializerRule (Initializer-F.Direct b s xs e) from rest = IsNoFunction b xs × BracketedArguments Sub b s xs e from rest
 
   -- init
   abbrev pub Initialized : Rule Initializer

@@ -2,16 +2,16 @@
 use Rattle.std.specs.Prelude.{◌≡◌, ℕ, ◌+◌, ◌≤◌, Bool, true, false, List, [], ◌∷◌, Option, Some, None}
 use Rattle.sy_lex.specs.declared.Row.TheVariants as row
 use Rattle.sy_lex.specs.declared.Token.{Token}
+use Rattle.sy_note.specs.declared.Spot.{Spot}
+use Rattle.sy_tree.specs.declared.parts.Brackets.{Brackets}
 use Rattle.sy_tree.specs.declared.tree.Argument.{Argument, out-Argument}
-use Rattle.sy_tree.specs.declared.tree.ArgumentList.{ArgumentList, out-ArgumentList}
 use Rattle.sy_tree.specs.declared.tree.Argument.TheOpen.{Argument-F, Expr-F}
 use Rattle.sy_tree.specs.declared.tree.Block.{Block}
-use Rattle.sy_tree.specs.declared.tree.Declaration.{Declaration}
 use Rattle.sy_tree.specs.declared.tree.Expr.{Expr}
 use Rattle.sy_tree.specs.declared.tree.FullExpression.{FullExpression}
 use Rattle.sy_tree.specs.declared.tree.Lambda.{Lambda}
 use Rattle.sy_tree.specs.declared.tree.Stmt.{Stmt}
-use Rattle.sy_tree.specs.Layers.{ArgumentLayer, ArgumentListLayer, ExprLayer, LambdaLayer}
+use Rattle.sy_tree.specs.Layers.{ArgumentLayer, ExprLayer, LambdaLayer}
 use Rattle.sy_tree.specs.Lists.{Rule, Optional, Listed, MaybeListed}
 use Rattle.sy_tree.specs.Types.{Integral, OneWordIntegral, Object, Captured, LambdaParameters, TemplateArguments}
 use Rattle.sy_tree.specs.Words.{At, Sees, Lexed, Identifier, Sycl, mark, keyword, identifier, spelling, level, unary_spelling, step_spelling, opening, closing, tag_spelling, object_spelling, function_spelling}
@@ -21,7 +21,6 @@ use Rattle.sy_tree.specs.Words.{At, Sees, Lexed, Identifier, Sycl, mark, keyword
 pub data Node : Type 0 where
   an_expr : ℕ → Expr → Node
   a_lambda : Lambda → Node
-  a_declaration : Declaration → Node
   a_full : FullExpression → Node
   a_block : Block → Node
   a_stmt : Stmt → Node
@@ -50,9 +49,9 @@ module _ (Sub : Rule Node) where
   OneArgument a from rest = ArgumentRule (out-Argument a) from rest
 
   -- "{" list(arg)? "}" | "(" list(arg)? ")"
-  abbrev pub BracketedArguments : ArgumentListLayer → List Token → List Token → Type 0
-  BracketedArguments l from rest = (m k : List Token) ×
-      At (mark (opening l.brackets)) l.open from m × MaybeListed OneArgument l.arguments m k × At (mark (closing l.brackets)) l.close k rest
+  abbrev pub BracketedArguments : Brackets → Spot → List Argument → Spot → List Token → List Token → Type 0
+  BracketedArguments b s xs e from rest = (m k : List Token) ×
+      At (mark (opening b)) s from m × MaybeListed OneArgument xs m k × At (mark (closing b)) e k rest
 
   abbrev pub ExprRule : ℕ → ExprLayer → List Token → List Token → Type 0
   -- ---- primary
@@ -79,8 +78,8 @@ module _ (Sub : Rule Node) where
   ExprRule least (Expr-F.FunctionalCast t x e) from rest = (m k i : List Token) ×
       OneWordIntegral t from m × Sees (mark "(") m k × AnyExpr x k i × At (mark ")") e i rest
   -- otype ("{" list(arg)? "}" | "(" list(arg)? ")")
-  ExprRule least (Expr-F.Construct t l) from rest = (m : List Token) ×
-      Object t from m × BracketedArguments (out-ArgumentList l) m rest
+  ExprRule least (Expr-F.Construct t b s xs e) from rest = (m : List Token) ×
+      Object t from m × BracketedArguments b s xs e m rest
   -- T(group_barrier) "(" expr ")"
   ExprRule least (Expr-F.GroupBarrier q x e) from rest = (m k i : List Token) ×
       Sycl "group_barrier" q from m × Sees (mark "(") m k × AnyExpr x k i × At (mark ")") e i rest

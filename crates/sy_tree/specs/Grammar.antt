@@ -2,13 +2,11 @@
 use Rattle.std.specs.Prelude.{◌≡◌, ℕ, zero, suc, ◌≤◌, List, length, drop}
 use Rattle.sy_lex.specs.declared.Token.{Token}
 use Rattle.sy_tree.specs.declared.tree.Block.{out-Block}
-use Rattle.sy_tree.specs.declared.tree.Declaration.{out-Declaration}
 use Rattle.sy_tree.specs.declared.tree.Expr.{out-Expr}
 use Rattle.sy_tree.specs.declared.tree.FullExpression.{out-FullExpression}
 use Rattle.sy_tree.specs.declared.tree.Lambda.{out-Lambda}
 use Rattle.sy_tree.specs.declared.tree.Stmt.{out-Stmt}
-use Rattle.sy_tree.specs.Declarations.{DeclarationRule}
-use Rattle.sy_tree.specs.Expressions.{Node, an_expr, a_lambda, a_declaration, a_full, a_block, a_stmt, ExprRule, LambdaRule}
+use Rattle.sy_tree.specs.Expressions.{Node, an_expr, a_lambda, a_full, a_block, a_stmt, ExprRule, LambdaRule}
 use Rattle.sy_tree.specs.Lists.{Rule}
 use Rattle.sy_tree.specs.Statements.{BlockRule, FullRule, StmtRule}
 
@@ -16,7 +14,6 @@ use Rattle.sy_tree.specs.Statements.{BlockRule, FullRule, StmtRule}
 abbrev pub NodeRule : Rule Node → Rule Node
 NodeRule Sub (an_expr least x) from rest = ExprRule Sub least (out-Expr x) from rest
 NodeRule Sub (a_lambda l) from rest = LambdaRule Sub (out-Lambda l) from rest
-NodeRule Sub (a_declaration d) from rest = DeclarationRule Sub (out-Declaration d) from rest
 NodeRule Sub (a_full x) from rest = FullRule Sub (out-FullExpression x) from rest
 NodeRule Sub (a_block b) from rest = BlockRule Sub (out-Block b) from rest
 NodeRule Sub (a_stmt x) from rest = StmtRule Sub (out-Stmt x) from rest

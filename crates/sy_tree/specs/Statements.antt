@@ -2,20 +2,26 @@
 use Rattle.std.specs.Prelude.{◌≡◌, List, [], ◌∷◌, Option, Some, None}
 use Rattle.sy_lex.specs.declared.Row.TheVariants as row
 use Rattle.sy_lex.specs.declared.Token.{Token}
-use Rattle.sy_tree.specs.declared.tree.Argument.TheOpen.{ForInit-F, FullExpression-F, Printed-F, Stmt-F}
+use Rattle.sy_tree.specs.declared.tree.Argument.TheOpen.{FullExpression-F, Printed-F, Stmt-F}
 use Rattle.sy_tree.specs.declared.tree.Block.{Block, out-Block}
 use Rattle.sy_tree.specs.declared.tree.Declaration.{out-Declaration}
-use Rattle.sy_tree.specs.declared.tree.ForInit.{ForInit, out-ForInit}
 use Rattle.sy_tree.specs.declared.tree.FullExpression.{FullExpression, out-FullExpression}
 use Rattle.sy_tree.specs.declared.tree.Printed.{Printed, out-Printed}
-use Rattle.sy_tree.specs.declared.tree.Stmt.{Stmt}
+use Rattle.sy_tree.specs.declared.tree.Stmt.{Stmt, out-Stmt}
 use Rattle.sy_tree.specs.declared.parts.Qualified.{Qualified}
 use Rattle.sy_tree.specs.Declarations.{DeclarationRule}
-use Rattle.sy_tree.specs.Expressions.{Node, an_expr, a_declaration, a_full, a_block, a_stmt, AnyExpr, InParentheses}
-use Rattle.sy_tree.specs.Layers.{BlockLayer, ForInitLayer, FullExpressionLayer, PrintedLayer, StmtLayer}
+use Rattle.sy_tree.specs.Expressions.{Node, an_expr, a_full, a_block, a_stmt, AnyExpr, InParentheses}
+use Rattle.sy_tree.specs.Layers.{BlockLayer, FullExpressionLayer, PrintedLayer, StmtLayer}
 use Rattle.sy_tree.specs.Lists.{Rule, Maybe, Optional, Each, OneOrMore}
 use Rattle.sy_tree.specs.Types.{TypeSpecified}
 use Rattle.sy_tree.specs.Words.{At, Sees, Lexed, Identifier, Std, Sycl, mark, keyword, assignment_spelling}
+
+-- what a `for` may begin with
+abbrev pub IsInitStatement : StmtLayer → Type 0
+IsInitStatement (Stmt-F.Null s) = Unit
+IsInitStatement (Stmt-F.Expression x e) = Unit
+IsInitStatement (Stmt-F.Declaration d) = Unit
+IsInitStatement _ = ⊥
 
 module _ (Sub : Rule Node) where
   -- stmt, a node of its own
@@ -48,13 +54,9 @@ module _ (Sub : Rule Node) where
   abbrev pub OnePrinted : Rule Printed
   OnePrinted x from rest = PrintedRule (out-Printed x) from rest
 
-  abbrev pub ForInitRule : ForInitLayer → List Token → List Token → Type 0
-  -- ";"
-  ForInitRule ForInit-F.Omitted from rest = Sees (mark ";") from rest
-  -- full ";"
-  ForInitRule (ForInit-F.Evaluate x) from rest = (m : List Token) × AnyFull x from m × Sees (mark ";") m rest
-  -- decl
-  ForInitRule (ForInit-F.Declare d) from rest = Sub (a_declaration d) from rest
+  -- decl | full ";" | ";"
+  abbrev pub InitStatement : Rule Stmt
+  InitStatement x from rest = IsInitStatement (out-Stmt x) × Substatement x from rest
 
   abbrev pub StmtRule : StmtLayer → List Token → List Token → Type 0
   -- block, which is the same node
@@ -89,7 +91,7 @@ module _ (Sub : Rule Node) where
       At (keyword "do") s from m × Substatement x m k × Sees (keyword "while") k i × InParentheses Sub c i j × At (mark ";") e j rest
   -- "for" "(" (decl | full ";" | ";") expr? ";" full? ")" stmt
   StmtRule (Stmt-F.For s a c b x) from rest = (m k i j p u v : List Token) ×
-      At (keyword "for") s from m × Sees (mark "(") m k × ForInitRule (out-ForInit a) k i × Optional (AnyExpr Sub) c i j ×
+      At (keyword "for") s from m × Sees (mark "(") m k × InitStatement a k i × Optional (AnyExpr Sub) c i j ×
       Sees (mark ";") j p × Optional AnyFull b p u × Sees (mark ")") u v × Substatement x v rest
   -- "for" "(" "const"? ("auto" | ktype) "&"? IDENT ":" IDENT ")" stmt
   StmtRule (Stmt-F.RangeFor s fixed t by_reference name range x) from rest = (m k i j p u v w : List Token) ×

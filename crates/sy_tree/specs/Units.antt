@@ -4,20 +4,20 @@ use Rattle.sy_lex.specs.declared.Row.TheVariants as row
 use Rattle.sy_lex.specs.declared.Token.{Token}
 use Rattle.sy_lex.specs.declared.Word.{Word}
 use Rattle.sy_note.specs.declared.Spot.{Spot}
-use Rattle.sy_tree.specs.declared.tree.Argument.TheOpen.{ValueInitializer-F}
+use Rattle.sy_tree.specs.declared.tree.Argument.TheOpen.{Declarator-F}
 use Rattle.sy_tree.specs.declared.tree.Block.{Block}
 use Rattle.sy_tree.specs.declared.tree.Constant.{Constant}
+use Rattle.sy_tree.specs.declared.tree.Declarator.{out-Declarator}
 use Rattle.sy_tree.specs.declared.tree.Expr.{Expr}
 use Rattle.sy_tree.specs.declared.tree.FileItem.{FileItem}
 use Rattle.sy_tree.specs.declared.tree.FileItem.TheVariants as item
 use Rattle.sy_tree.specs.declared.tree.Function.{Function}
 use Rattle.sy_tree.specs.declared.tree.Unit.{Unit as SourceUnit}
-use Rattle.sy_tree.specs.declared.tree.ValueInitializer.{ValueInitializer, out-ValueInitializer}
 use Rattle.sy_tree.specs.declared.parts.Brackets.TheVariants as brackets
-use Rattle.sy_tree.specs.Declarations.{ValueInitialized}
+use Rattle.sy_tree.specs.Declarations.{OneDeclarator}
 use Rattle.sy_tree.specs.Expressions.{an_expr, a_block}
 use Rattle.sy_tree.specs.Grammar.{Derives, max_height}
-use Rattle.sy_tree.specs.Layers.{ValueInitializerLayer}
+use Rattle.sy_tree.specs.Layers.{DeclaratorLayer}
 use Rattle.sy_tree.specs.Lists.{Rule, Each, MaybeListed}
 use Rattle.sy_tree.specs.Qualification.{is_one_of, qualified}
 use Rattle.sy_tree.specs.Types.{Returned, ConstSpecified, TypeSpecified, OneParameter}
@@ -34,17 +34,18 @@ abbrev pub Using : Rule Spot
 Using s from rest = (m k i : List Token) ×
     At (keyword "using") s from m × Sees (keyword "namespace") m k × Sees (identifier "sycl") k i × Sees (mark ";") i rest
 
--- no parentheses: "=" expr | "{" expr "}"
-abbrev pub HasNoParentheses : ValueInitializerLayer → Type 0
-HasNoParentheses (ValueInitializer-F.Bracketed brackets.Parentheses s x e) = ⊥
-HasNoParentheses _ = Unit
+-- "=" expr | "{" expr "}", of the ways to initialize an integer
+abbrev pub IsConstantInitializer : DeclaratorLayer → Type 0
+IsConstantInitializer (Declarator-F.Equal x s v) = Unit
+IsConstantInitializer (Declarator-F.Bracketed x brackets.Braces s v e) = Unit
+IsConstantInitializer _ = ⊥
 
 -- ("const" | "constexpr") (ktype | "auto") IDENT ("=" expr | "{" expr "}") ";"
 -- A constant is a node itself, so that less is left for its expression.
 abbrev pub OneConstant : Rule Constant
-OneConstant c from rest = (m k i j : List Token) ×
-    ConstSpecified c.specifier from m × TypeSpecified c.of m k × Identifier c.name k i × HasNoParentheses (out-ValueInitializer c.initializer) ×
-    ValueInitialized (Derives 63) c.initializer i j × Sees (mark ";") j rest
+OneConstant c from rest = (m k i : List Token) ×
+    ConstSpecified c.specifier from m × TypeSpecified c.of m k × IsConstantInitializer (out-Declarator c.declarator) ×
+    OneDeclarator (Derives 63) c.declarator k i × Sees (mark ";") i rest
 
 -- ("void" | ktype) IDENT "(" list(param)? ")" block
 abbrev pub OneFunction : Rule Function

@@ -11,10 +11,10 @@ pub use boxes::{boxed_expr, boxed_stmt};
 pub use operators::{AssignmentOperator, Operator};
 pub use parts::{
     AccessTag, Brackets, Capture, ConstSpecifier, ElementArguments, FunctionObject, IntegerType,
-    LambdaParameter, LambdaParameterType, Lexeme, LibraryFunction, ObjectType, Parameter, Qualified,
-    ReferenceType, ReturnType, Step, TemplateArgument, TypeSpecifier,
+    LambdaParameter, LambdaParameterType, Lexeme, LibraryFunction, ObjectType, Parameter,
+    Qualified, ReferenceType, ReturnType, Step, TemplateArgument, TypeSpecifier,
 };
 pub use tree::{
-    Argument, ArgumentList, Block, Constant, Declaration, Declarator, Expr, FileItem, ForInit,
-    FullExpression, Function, Initializer, Lambda, Printed, Stmt, Unit, ValueInitializer,
+    Argument, Block, Constant, Declaration, Declarator, Expr, FileItem, FullExpression, Function,
+    Initializer, Lambda, Printed, Stmt, Unit,
 };

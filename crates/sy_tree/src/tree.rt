@@ -25,7 +25,7 @@ pub enum Expr {
     StaticCast(Spot, IntegerType, Boxed<Expr>, Spot),
     /// The type has one word.
     FunctionalCast(IntegerType, Boxed<Expr>, Spot),
-    Construct(ObjectType, ArgumentList),
+    Construct(ObjectType, Brackets, Spot, Items<Argument>, Spot),
     GroupBarrier(Qualified, Boxed<Expr>, Spot),
     AccessTag(Qualified, AccessTag),
     /// `property::queue::in_order`.
@@ -33,22 +33,10 @@ pub enum Expr {
     ErrorCode(Qualified, Lexeme),
     /// `property::reduction::initialize_to_identity`.
     InitializeToIdentity(Qualified, Brackets, Spot),
-    FunctionObject(
-        Qualified,
-        FunctionObject,
-        Option<IntegerType>,
-        Brackets,
-        Spot,
-    ),
+    FunctionObject(Qualified, FunctionObject, Option<IntegerType>, Brackets, Spot),
     LibraryCall(Qualified, LibraryFunction, Items<Argument>, Spot),
     Subscript(Boxed<Expr>, Spot, Boxed<Expr>, Spot),
-    MemberCall(
-        Boxed<Expr>,
-        Lexeme,
-        Option<TemplateArgument>,
-        Items<Argument>,
-        Spot,
-    ),
+    MemberCall(Boxed<Expr>, Lexeme, Option<TemplateArgument>, Items<Argument>, Spot),
     Postfix(Boxed<Expr>, Spot, Step),
     Prefix(Spot, Step, Boxed<Expr>),
     Unary(Spot, UnOp, Boxed<Expr>),
@@ -63,15 +51,6 @@ pub enum Argument {
     Value(Expr),
     Braced(Spot, Items<Expr>, Spot),
     Lambda(Lambda),
-}
-
-#[cycle(tree)]
-#[derive(Drop)]
-pub struct ArgumentList {
-    pub brackets: Brackets,
-    pub open: Spot,
-    pub arguments: Items<Argument>,
-    pub close: Spot,
 }
 
 /// A lambda, at its `[`. Parentheses without parameters may be left out.
@@ -100,19 +79,13 @@ pub enum FullExpression {
     Assignment(Expr, Spot, AssignmentOperator, Expr),
 }
 
-/// The initializer of an integer.
+/// A declared integer, with its initializer.
 #[cycle(tree)]
 #[derive(Drop)]
-pub enum ValueInitializer {
-    Equal(Spot, Expr),
-    Bracketed(Brackets, Spot, Expr, Spot),
-}
-
-#[cycle(tree)]
-#[derive(Drop)]
-pub struct Declarator {
-    pub name: Lexeme,
-    pub initializer: Option<ValueInitializer>,
+pub enum Declarator {
+    Uninitialized(Lexeme),
+    Equal(Lexeme, Spot, Expr),
+    Bracketed(Lexeme, Brackets, Spot, Expr, Spot),
 }
 
 /// The initializer of an object of the library.
@@ -120,19 +93,14 @@ pub struct Declarator {
 #[derive(Drop)]
 pub enum Initializer {
     Copy(Spot, Expr),
-    Direct(ArgumentList),
+    Direct(Brackets, Spot, Items<Argument>, Spot),
 }
 
 /// A declaration, up to its `;`.
 #[cycle(tree)]
 #[derive(Drop)]
 pub enum Declaration {
-    Integers(
-        Option<ConstSpecifier>,
-        TypeSpecifier,
-        Items<Declarator>,
-        Spot,
-    ),
+    Integers(Option<ConstSpecifier>, TypeSpecifier, Items<Declarator>, Spot),
     Vector(Qualified, IntegerType, Lexeme, Option<Initializer>, Spot),
     DeviceVector(Qualified, Lexeme, Option<Initializer>, Spot),
     ThreadVector(Qualified, Lexeme, Spot),
@@ -151,14 +119,6 @@ pub enum Printed {
 
 #[cycle(tree)]
 #[derive(Drop)]
-pub enum ForInit {
-    Omitted,
-    Evaluate(FullExpression),
-    Declare(Declaration),
-}
-
-#[cycle(tree)]
-#[derive(Drop)]
 pub enum Stmt {
     Compound(Block),
     Null(Spot),
@@ -171,23 +131,10 @@ pub enum Stmt {
     If(Spot, Expr, Boxed<Stmt>, Option<Boxed<Stmt>>),
     While(Spot, Expr, Boxed<Stmt>),
     Do(Spot, Boxed<Stmt>, Expr, Spot),
-    For(
-        Spot,
-        ForInit,
-        Option<Expr>,
-        Option<FullExpression>,
-        Boxed<Stmt>,
-    ),
+    /// What it begins with is a `Null`, `Expression` or `Declaration`.
+    For(Spot, Boxed<Stmt>, Option<Expr>, Option<FullExpression>, Boxed<Stmt>),
     /// The flags say whether the element is const, and whether it is a reference.
-    RangeFor(
-        Spot,
-        bool,
-        TypeSpecifier,
-        bool,
-        Lexeme,
-        Lexeme,
-        Boxed<Stmt>,
-    ),
+    RangeFor(Spot, bool, TypeSpecifier, bool, Lexeme, Lexeme, Boxed<Stmt>),
     /// The name is that of the caught exception.
     Try(Spot, Block, Lexeme, Block),
 }
@@ -197,8 +144,7 @@ pub enum Stmt {
 pub struct Constant {
     pub specifier: ConstSpecifier,
     pub of: TypeSpecifier,
-    pub name: Lexeme,
-    pub initializer: ValueInitializer,
+    pub declarator: Declarator,
 }
 
 #[derive(Drop)]
