@@ -34,7 +34,7 @@ module _ (Sub : Rule Node) where
 
   -- "{" stmt* "}"
   abbrev pub BlockRule : BlockLayer → List Token → List Token → Type 0
-  BlockRule b from rest = (m k : List Token) × At (mark "{") b.open from m × Each Substatement b.statements m k × At (mark "}") b.close k rest
+  BlockRule b from rest = (m k : List Token) × At (mark "{") b.spot from m × Each Substatement b.statements m k × At (mark "}") b.close k rest
 
   abbrev pub FullRule : FullExpressionLayer → List Token → List Token → Type 0
   -- expr
