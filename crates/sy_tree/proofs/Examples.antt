@@ -1,12 +1,11 @@
 -- Trees of small sources.
-use Rattle.std.proofs.Common.{◌≡◌, ℕ, zero, suc, ◌≤◌, List, [], ◌∷◌, Option, Some, None, refl, sym, subst, inl, inr}
-use Rattle.sy_lex.specs.declared.Token.{Token}
+use Rattle.std.proofs.Common.{ℕ, suc, [], ◌∷◌, refl, sym, subst, inl}
 use Rattle.sy_note.specs.declared.Spot.{Spot}
 use Rattle.sy_tree.specs.declared.tree.Block.{out-roll-Block}
 use Rattle.sy_tree.specs.declared.tree.Expr.TheVariants as expr
 use Rattle.sy_tree.specs.declared.tree.Stmt.TheVariants as stmt
 use Rattle.sy_tree.specs.Examples.{here, empty_block, main_tokens, main_unit, return_tokens, return_stmt}
-use Rattle.sy_tree.specs.Expressions.{an_expr, a_block, a_stmt}
+use Rattle.sy_tree.specs.Expressions.{a_block, a_stmt}
 use Rattle.sy_tree.specs.Grammar.{Derives}
 use Rattle.sy_tree.specs.Layers.{BlockLayer}
 use Rattle.sy_tree.specs.Statements.{BlockRule}

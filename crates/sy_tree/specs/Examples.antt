@@ -1,11 +1,10 @@
 -- Two small sources, with every token at one place.
-use Rattle.std.specs.Prelude.{List, [], ◌∷◌, Option, Some, None, codes}
+use Rattle.std.specs.Prelude.{List, [], ◌∷◌, Some, codes}
 use Rattle.sy_lex.specs.declared.Row.TheVariants as row
 use Rattle.sy_lex.specs.declared.Token.{Token}
 use Rattle.sy_lex.specs.declared.Word.{Word}
 use Rattle.sy_note.specs.declared.Spot.{Spot}
 use Rattle.sy_num.specs.declared.Kind.TheVariants as kind
-use Rattle.sy_tree.specs.declared.parts.Lexeme.{Lexeme}
 use Rattle.sy_tree.specs.declared.parts.ReturnType.TheVariants as returned
 use Rattle.sy_tree.specs.declared.tree.Block.{Block, roll-Block}
 use Rattle.sy_tree.specs.declared.tree.Expr.TheVariants as expr
