@@ -1,5 +1,5 @@
 -- How often a list has a number, after a push and under a filter.
-use Rattle.std.proofs.Common.{◌≡◌, ◌≢◌, ℕ, ◌+◌, ◌≤◌, Bool, true, false, cond, List, [], ◌∷◌, ◌++◌, refl, sym, ap, ◌∙◌, arith, zero-add}
+use Rattle.std.proofs.Common.{◌≡◌, ◌≢◌, ◌⊎◌, inl, inr, ℕ, ◌+◌, ◌≤◌, Bool, true, false, cond, List, [], ◌∷◌, ◌++◌, refl, sym, ap, ◌∙◌, arith, zero-add}
 use Rattle.std.specs.Prelude.{not, if◌then◌else◌, ◌==◌}
 use Rattle.std.specs.List.{filter}
 use Rattle.std.proofs.lemmas.Bool.{eqb-true, eq-eqb}
@@ -52,6 +52,15 @@ chosen f key k here new m false same e keeps h = rw e h
 -- a list that is changed at one key alone keeps a number that it keeps there
 pub kept_at : (f : ℕ → List ℕ) (key k : ℕ) (here new : List ℕ) (m : ℕ) → new ≡ (if key == k then here else f k) → (Has (f key) m → Has here m) → Has (f k) m → Has new m
 kept_at f key k here new m e keeps h = chosen f key k here new m (key == k) refl e keeps h
+
+filtered_chosen : (f : ℕ → List ℕ) (key k : ℕ) (p : ℕ → Bool) (new : List ℕ) (m : ℕ) (G : Type 0) (b pm : Bool) → (key == k) ≡ b → p m ≡ pm → new ≡ (if b then filter p (f key) else f k) → (p m ≡ false → key ≡ k → G) → Has (f k) m → Has new m ⊎ G
+filtered_chosen f key k p new m G false pm at passes e gone h = inl (rw e h)
+filtered_chosen f key k p new m G true true at passes e gone h = inl (rw e (has_filtered p (f key) m passes (let same : key ≡ k = eqb-true key k at in rw same h)))
+filtered_chosen f key k p new m G true false at passes e gone h = inr (gone passes (eqb-true key k at))
+
+-- a list that is filtered at one key keeps a number, or the number doesn't pass there
+pub filtered_at : (f : ℕ → List ℕ) (key k : ℕ) (p : ℕ → Bool) (new : List ℕ) (m : ℕ) (G : Type 0) → new ≡ (if key == k then filter p (f key) else f k) → (p m ≡ false → key ≡ k → G) → Has (f k) m → Has new m ⊎ G
+filtered_at f key k p new m G e gone h = filtered_chosen f key k p new m G (key == k) (p m) refl refl e gone h
 
 pub not_same : (m n : ℕ) → m ≢ n → not (m == n) ≡ true
 not_same m n apart = other m n (m == n) refl apart

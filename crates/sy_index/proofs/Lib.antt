@@ -1,4 +1,5 @@
 pub mod Counts
 pub mod Changed
+pub mod Covering
 pub mod Index
 pub mod Kept

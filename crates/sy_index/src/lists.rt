@@ -1,11 +1,14 @@
 // Lists of node numbers by a key, a root or a queue.
 
-ghost use Rattle.std.specs.Prelude.{◌≡◌, ◌≢◌, ℕ, [], OnOk};
+ghost use Rattle.std.specs.Prelude.{◌≡◌, ◌≢◌, ◌⊎◌, ℕ, [], true, OnOk};
 ghost use Rattle.sy_index.specs.Lists.{Has};
 ghost use Rattle.sy_index.specs.Listed.{listed};
+ghost use Rattle.sy_index.specs.Slots.{superseded_at};
 
+use crate::slot::Slots;
 use std::alloc::{AllocError, Global};
 use std::collections::BTreeMap;
+use sy_graph::Node;
 
 /// For each key a list of numbers, most of them empty.
 #[derive(Drop)]
@@ -50,12 +53,46 @@ impl Lists {
         Ok(())
     }
 
-    /// Takes a number from those of the key.
+    /// Takes a number from those of the key; a list that gets empty is freed.
     pub fn remove(&mut self, key: u32, n: u32)
+        ensures { (k m : ℕ) → m ≢ n → Has (listed self.old k) m → Has (listed self.new k) m }
+    {
+        self.take_out(key, n);
+        self.free_empty(key);
+    }
+
+    fn take_out(&mut self, key: u32, n: u32)
         ensures { (k m : ℕ) → m ≢ n → Has (listed self.old k) m → Has (listed self.new k) m }
     {
         if let Some(list) = self.lists.get_mut(&key) {
             list.retain(|m| *m != n);
+        }
+    }
+
+    fn free_empty(&mut self, key: u32)
+        ensures { (k : ℕ) → listed self.new k ≡ listed self.old k }
+    {
+        if self.at(key).is_empty() {
+            self.lists.remove(&key);
+        }
+    }
+
+    /// Leaves of the numbers of the key the number `n` alone.
+    pub fn keep_only(&mut self, key: u32, n: u32)
+        ensures { (k m : ℕ) → Has (listed self.old k) m → Has (listed self.new k) m ⊎ ((m ≢ n) × (k ≡ key)) }
+    {
+        if let Some(list) = self.lists.get_mut(&key) {
+            list.retain(|m| *m == n);
+        }
+    }
+
+    /// Takes from the numbers of the root those of nodes that are done or that `y`, whose number is
+    /// `n`, takes the place of.
+    pub fn shed(&mut self, root: u32, slots: &Slots, y: &Node, n: u32)
+        ensures { (k m : ℕ) → Has (listed self.old k) m → Has (listed self.new k) m ⊎ ((m ≢ n) × (superseded_at slots.now m k y.now ≡ true)) }
+    {
+        if let Some(list) = self.lists.get_mut(&root) {
+            list.retain(|m| *m == n || !slots.superseded(*m, root, y));
         }
     }
 }

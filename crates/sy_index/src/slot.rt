@@ -1,9 +1,10 @@
 // What is kept of each pending node.
 
-ghost use Rattle.std.specs.Prelude.{◌≡◌, ◌<◌, ◌-◌, [], ◌∷◌, ◌++◌, length, take, reverse, Some, None, OnOk, OnErr, IfErr, slice_get, slice_set, option_map};
+ghost use Rattle.std.specs.Prelude.{◌≡◌, ◌<◌, ◌-◌, ◌^◌, [], ◌∷◌, ◌++◌, length, take, reverse, Some, None, OnOk, OnErr, IfErr, slice_get, slice_set, option_map, option_copied};
 ghost use Rattle.std.specs.List.{filter};
-ghost use Rattle.sy_index.specs.Slots.{changed, with_successor, without_last, with_fewer, linked, unlinked, told, idle, holds_at};
+ghost use Rattle.sy_index.specs.Slots.{changed, with_successor, without_last, with_fewer, linked, unlinked, told, idle, holds_at, pending_node, superseded_at};
 
+use crate::cover::superseded;
 use std::alloc::{AllocError, Global};
 use std::marker::Model;
 use sy_graph::{Node, before};
@@ -111,6 +112,27 @@ impl Slots {
         }
     }
 
+    /// The node `n`, where it is pending.
+    pub fn node(&self, n: u32) -> Option<&Node>
+        ensures { option_copied result ≡ pending_node (slice_get self.now n) }
+    {
+        match self.slots.get(n as usize) {
+            Some(Some(slot)) => Some(&slot.node),
+            Some(None) | None => None,
+        }
+    }
+
+    /// Whether the node `m` is done, or `y` covers each of its needs on the root.
+    #[tactic(auto, unfolding(crate::specs::Slots::superseded_at))]
+    pub fn superseded(&self, m: u32, root: u32, y: &Node) -> bool
+        ensures { result ≡ superseded_at self.now m root y.now }
+    {
+        match self.slots.get(m as usize) {
+            Some(Some(slot)) => superseded(&slot.node, root, y),
+            Some(None) | None => true,
+        }
+    }
+
     /// Adds those of the numbers whose nodes are pending and come before `y`.
     pub fn gather(&self, y: &Node, from: &[u32], into: &mut Vec<u32>) -> Result<(), AllocError>
         ensures { OnOk result (into.new.items ≡ into.old.items ++ filter (holds_at self.now y.now) from.now) }
@@ -123,8 +145,29 @@ impl Slots {
         Ok(())
     }
 
+    /// Adds a pending node and an edge to it from each of the nodes; for want of memory hands it
+    /// back.
+    pub fn append(&mut self, slot: Slot, ms: &[u32]) -> Result<(), Slot>
+        requires { length self.old < 2 ^ 32 }
+        ensures ok { OnOk result (self.new ≡ linked self.old (length self.old) ms.now ++ Some slot ∷ []) }
+        ensures back { IfErr result (λ given. given ≡ slot) }
+        ensures err { OnErr result (self.new ≡ self.old) }
+    {
+        let number = self.len() as u32;
+        let Ok(()) = self.link_all(ms, number) else {
+            return Err(slot);
+        };
+        match self.push(slot) {
+            Ok(()) => Ok(()),
+            Err(slot) => {
+                self.unlink_all(ms);
+                Err(slot)
+            }
+        }
+    }
+
     /// Adds a pending node; for want of memory hands it back.
-    pub fn push(&mut self, slot: Slot) -> Result<(), Slot>
+    fn push(&mut self, slot: Slot) -> Result<(), Slot>
         ensures ok { OnOk result (self.new ≡ self.old ++ Some slot ∷ []) }
         ensures back { IfErr result (λ given. given ≡ slot) }
         ensures err { OnErr result (self.new ≡ self.old) }
@@ -168,7 +211,7 @@ impl Slots {
 
     /// Adds an edge from each of the nodes to `n`.
     #[tactic(auto, using(crate::proofs::Changed::link_steps))]
-    pub fn link_all(&mut self, ms: &[u32], n: u32) -> Result<(), AllocError>
+    fn link_all(&mut self, ms: &[u32], n: u32) -> Result<(), AllocError>
         ensures ok { OnOk result (self.new ≡ linked self.old n ms.now) }
         ensures err { OnErr result (self.new ≡ self.old) }
     {
@@ -186,7 +229,7 @@ impl Slots {
 
     /// Takes back the last edge from each of the nodes, the last node first.
     #[tactic(auto, using(crate::proofs::Changed::unlink_steps))]
-    pub fn unlink_all(&mut self, ms: &[u32])
+    fn unlink_all(&mut self, ms: &[u32])
         ensures { self.new ≡ unlinked self.old (reverse ms.now) }
     {
         for m in ms.iter().rev() {

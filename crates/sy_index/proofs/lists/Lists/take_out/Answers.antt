@@ -5,7 +5,7 @@ use Rattle.std.proofs.lemmas.Grind.{common_steps}
 use Rattle.std.proofs.lemmas.Fn.{filter_same}
 use Rattle.sy_index.specs.Listed.{listed}
 use Rattle.sy_index.proofs.Counts.{has_filtered, kept_at, not_same}
-use Rattle.sy_index.proofs.lists.Lists.remove.Goals as goal
+use Rattle.sy_index.proofs.lists.Lists.take_out.Goals as goal
 
 pub returns-in-Some : goal.returns-in-Some
 returns-in-Some c = λ k m apart h.
