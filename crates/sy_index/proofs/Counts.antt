@@ -1,7 +1,10 @@
 -- How often a list has a number, after a push and under a filter.
-use Rattle.std.proofs.Common.{◌≡◌, ◌≢◌, ◌⊎◌, inl, inr, ℕ, ◌+◌, ◌≤◌, Bool, true, false, cond, List, [], ◌∷◌, ◌++◌, refl, sym, ap, ◌∙◌, arith, zero-add}
+use Rattle.std.proofs.Common.{◌≡◌, ◌≢◌, ◌⊎◌, inl, inr, ℕ, zero, suc, ◌+◌, ◌≤◌, get_or, Bool, true, false, cond, List, [], ◌∷◌, ◌++◌, refl, sym, ap, ◌∙◌, arith, zero-add}
 use Rattle.std.specs.Prelude.{not, if◌then◌else◌, ◌==◌}
-use Rattle.std.specs.List.{filter}
+use Rattle.std.specs.List.{filter, remove}
+use Rattle.std.specs.Ordering.{nat_cmp}
+use Rattle.std.specs.declared.cmp.Ordering.TheVariants.{Equal}
+use Rattle.std.proofs.lemmas.Map.Lookups.{exact_unsigned}
 use Rattle.std.proofs.lemmas.Bool.{eqb-true, eq-eqb}
 use Rattle.sy_index.specs.Lists.{one_if, count, Has}
 
@@ -11,6 +14,26 @@ count-append (x ∷ xs) ys n = omega (arith, count-append xs ys n)
 
 pub one_at : (n : ℕ) → one_if (n == n) ≡ 1
 one_at n = ap one_if (eq-eqb n n refl)
+
+pub one_off : (m n : ℕ) → m ≢ n → one_if (m == n) ≡ 0
+one_off m n apart = go (m == n) refl
+  where
+    go : (b : Bool) → (m == n) ≡ b → one_if b ≡ 0
+    go true e = absurd (apart (eqb-true m n e))
+    go false e = refl
+
+count-removed : (xs : List ℕ) (i n m : ℕ) → get_or xs i n ≡ n → n ≢ m → count (remove xs i) m ≡ count xs m
+count-removed [] zero n m e apart = refl
+count-removed [] (suc i) n m e apart = refl
+count-removed (x ∷ xs) zero n m e apart = let off : one_if (x == m) ≡ 0 = rw e (one_off n m apart) in omega arith
+count-removed (x ∷ xs) (suc i) n m e apart = ap (λ (k : ℕ). one_if (x == m) + k) (count-removed xs i n m e apart)
+
+-- a number apart from the one that is removed stays
+pub has_removed : (xs ys : List ℕ) (i n m : ℕ) → nat_cmp (get_or xs i n) n ≡ Equal → ys ≡ remove xs i → m ≢ n → Has xs m → Has ys m
+has_removed xs ys i n m at e apart h =
+    let here : get_or xs i n ≡ n = exact_unsigned (get_or xs i n) n at in
+    let all : count (remove xs i) m ≡ count xs m = count-removed xs i n m here (λ k. apart (sym k)) in
+    rw e (omega arith)
 
 pub has_pushed : (xs : List ℕ) (n : ℕ) → Has (xs ++ n ∷ []) n
 has_pushed xs n =

@@ -125,7 +125,7 @@ fn predecessors(
     let mut found = Vec::new(alloc);
     slots.gather(node, node.after.items(), &mut found)?;
     if let Some(q) = node.in_order {
-        slots.gather(node, queues.at(q), &mut found)?;
+        slots.gather_both(node, queues.at(q), &mut found)?;
     }
     for need in node.needs.items() {
         gather_root(slots, roots, node, need, &mut found)?;
@@ -143,9 +143,9 @@ fn gather_root(
 ) -> Result<(), AllocError>
     ensures { OnOk result (into.new.items ≡ into.old.items ++ filter (holds_at slots.now y.now) (root_numbers (by_root roots.now) need.now)) }
 {
-    slots.gather(y, roots.at(true, need.buffer), into)?;
+    slots.gather_both(y, roots.at(true, need.buffer), into)?;
     if need.mode.writes() {
-        slots.gather(y, roots.at(false, need.buffer), into)?;
+        slots.gather_both(y, roots.at(false, need.buffer), into)?;
     }
     Ok(())
 }

@@ -1,6 +1,6 @@
 // The lists by root.
 
-ghost use Rattle.std.specs.Prelude.{◌≡◌, ◌≢◌, ◌⊎◌, ℕ, Bool, true, OnOk, Some, slice_get};
+ghost use Rattle.std.specs.Prelude.{◌≡◌, ◌≢◌, ◌⊎◌, ◌++◌, ℕ, Bool, true, OnOk, Some, slice_get};
 ghost use Rattle.sy_access.specs.declared.access.Need.{Need};
 ghost use Rattle.sy_access.specs.Needs.{writes};
 ghost use Rattle.sy_index.specs.Lists.{Has};
@@ -28,8 +28,8 @@ impl Roots {
     }
 
     /// The nodes that are listed for needs on the root that write, or for those that only read.
-    pub fn at(&self, writes: bool, root: u32) -> &[u32]
-        ensures { result.now ≡ by_root self.now writes root }
+    pub fn at(&self, writes: bool, root: u32) -> (&[u32], &[u32])
+        ensures { result.0.now ++ result.1.now ≡ by_root self.now writes root }
     {
         if writes {
             self.writers.at(root)

@@ -145,6 +145,19 @@ impl Slots {
         Ok(())
     }
 
+    /// The same for numbers in two parts.
+    pub fn gather_both(
+        &self,
+        y: &Node,
+        from: (&[u32], &[u32]),
+        into: &mut Vec<u32>,
+    ) -> Result<(), AllocError>
+        ensures { OnOk result (into.new.items ≡ into.old.items ++ filter (holds_at self.now y.now) (from.entry.0.now ++ from.entry.1.now)) }
+    {
+        self.gather(y, from.0, into)?;
+        self.gather(y, from.1, into)
+    }
+
     /// Adds a pending node and an edge to it from each of the nodes; for want of memory hands it
     /// back.
     pub fn append(&mut self, slot: Slot, ms: &[u32]) -> Result<(), Slot>
