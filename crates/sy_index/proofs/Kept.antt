@@ -1,6 +1,6 @@
 -- What is kept stays right when a node is added and when one is done, and tells which nodes are ready.
 use Rattle.std.proofs.Common.{◌≡◌, ◌≢◌, ◌⊎◌, inl, inr, ℕ, zero, suc, ◌+◌, ◌<◌, List, [], ◌∷◌, ◌++◌, length, map, Bool, true, false, ◌||◌, Option, Some, None, refl, sym, ap, ◌∙◌, subst, arith, set, take, add-one, get_or}
-use Rattle.std.specs.Prelude.{slice_get, option_map, ◌==◌, if◌then◌else◌}
+use Rattle.std.specs.Prelude.{slice_get, option_map, unwrap_or, ◌==◌, if◌then◌else◌}
 use Rattle.std.proofs.Common.{Result, Ok, Err}
 use Rattle.std.specs.Prelude.{OnOk, OnErr}
 use Rattle.std.specs.Result.{is_err}
@@ -17,7 +17,7 @@ use Rattle.sy_graph.proofs.Ready.{ready_from, ready_tells}
 use Rattle.sy_index.specs.declared.slot.Slot.{Slot}
 use Rattle.sy_index.specs.Lists.{one_if, count, Has}
 use Rattle.sy_index.specs.Cover.{covered, superseded}
-use Rattle.sy_index.specs.Slots.{changed, with_successor, with_fewer, linked, told, node_of, nodes_of, edges, At, holds_slot, holds_at, superseded_at, pending_node, idle, candidates, root_numbers, queue_numbers, Follows, Reached, Covered, Queued, IsIndex}
+use Rattle.sy_index.specs.Slots.{changed, with_successor, with_fewer, linked, told, node_of, nodes_of, edges, At, holds_slot, holds_at, superseded_at, pending, idle, candidates, root_numbers, queue_numbers, Follows, Reached, Covered, Queued, IsIndex}
 use Rattle.sy_index.proofs.Covering.{any_passes, meets_tells, queue_before, covered_before, covered_meets, covered_writes, superseded_tells, covered_covered}
 use Rattle.sy_index.proofs.Counts.{count-append, has_filtered, filtered_passes}
 use Rattle.sy_index.proofs.Index.{Grew, linked_from, linked_both, length-linked, edges_other, edges_new, edges-push, edges_some, edges-at, edges-taken, at_taken, taken_at, edges-told, Fewer, told_from, told_both, at_pushed, pushed_at, pushed_last}
@@ -145,7 +145,7 @@ holds_from : (S : List (Option Slot)) (y : Node) (m : ℕ) (x : Slot) → At S m
 unfolding holds_at
 holds_from S y m x at h = rw at h
 
-holds_tells : (m : ℕ) (y : Node) (o : Option (Option Slot)) → holds_slot o m y ≡ true → (x : Slot) × (o ≡ Some (Some x)) × (before x.node m y ≡ true)
+holds_tells : (m : ℕ) (y : Node) (o : Option (Option Slot)) → holds_slot (unwrap_or o None) m y ≡ true → (x : Slot) × (o ≡ Some (Some x)) × (before x.node m y ≡ true)
 holds_tells m y (Some (Some x)) h = (x, refl, h)
 holds_tells m y (Some None) h = absurd cc
 holds_tells m y None h = absurd cc
@@ -414,14 +414,14 @@ module _ (S : List (Option Slot)) (R R' : Bool → ℕ → List ℕ) (Q Q' : ℕ
   index_shed = record { counted = index.counted; sound = index.sound; complete = index.complete; rooted = rooted_shed; queued = queued_shed }
 
 -- the same for the node that is found at its number
-pub index_shed_at : (S : List (Option Slot)) (R R' : Bool → ℕ → List ℕ) (Q Q' : ℕ → List ℕ) (n : ℕ) (new : Slot) (y : Node) → IsIndex S R Q → At S n new → length S ≡ suc n → Some y ≡ pending_node (slice_get S n)
+pub index_shed_at : (S : List (Option Slot)) (R R' : Bool → ℕ → List ℕ) (Q Q' : ℕ → List ℕ) (n : ℕ) (new : Slot) (y : Node) → IsIndex S R Q → At S n new → length S ≡ suc n → Some y ≡ node_of (pending S n)
     → ((w : Bool) (k m : ℕ) → Has (R w k) m → Has (R' w k) m ⊎ ((m ≢ n) × (superseded_at S m k y ≡ true)))
     → ((k m : ℕ) → Has (Q k) m → Has (Q' k) m ⊎ ((m ≢ n) × (y.in_order ≡ Some k)))
     → ((i : ℕ) (a : Need) → slice_get new.node.needs i ≡ Some a → Has (R (writes a.mode) a.buffer) n)
     → ((q : ℕ) → new.node.in_order ≡ Some q → Has (Q q) n)
     → IsIndex S R' Q'
 index_shed_at S R R' Q Q' n new y index at end is roots queues rooted_new queued_new =
-    let named : pending_node (slice_get S n) ≡ Some new.node = ap pending_node at in
+    let named : node_of (pending S n) ≡ Some new.node = ap (λ (o : Option (Option Slot)). node_of (unwrap_or o None)) at in
     let same : y ≡ new.node = cc in
     index_shed S R R' Q Q' n new index at end
     (λ w k m h. elim (roots w k m h) [ inl l ↦ inl l | inr g ↦ inr (g.0, subst (λ (v : Node). superseded_at S m k v ≡ true) same g.1) ])
@@ -535,7 +535,7 @@ there_node : (S : List (Option Slot)) (m : ℕ) (x : Slot) → At S m x → slic
 unfolding nodes_of
 there_node S m x at = slice_get-map node_of S m ∙ ap (λ (o : Option (Option Slot)). option_map node_of o) at
 
-idle_tells : (o : Option (Option Slot)) → idle o ≡ true → (x : Slot) × (o ≡ Some (Some x)) × (x.waits ≡ 0)
+idle_tells : (o : Option (Option Slot)) → idle (unwrap_or o None) ≡ true → (x : Slot) × (o ≡ Some (Some x)) × (x.waits ≡ 0)
 idle_tells (Some (Some x)) h = (x, refl, eqb-true x.waits 0 h)
 idle_tells (Some None) h = absurd cc
 idle_tells None h = absurd cc
@@ -545,7 +545,7 @@ bool_same true b f g = sym (f refl)
 bool_same false true f g = g refl
 bool_same false false f g = refl
 
-idle_is_ready : (S : List (Option Slot)) (R : Bool → ℕ → List ℕ) (Q : ℕ → List ℕ) (n : ℕ) → IsIndex S R Q → idle (slice_get S n) ≡ true → is_ready (nodes_of S) n ≡ true
+idle_is_ready : (S : List (Option Slot)) (R : Bool → ℕ → List ℕ) (Q : ℕ → List ℕ) (n : ℕ) → IsIndex S R Q → idle (pending S n) ≡ true → is_ready (nodes_of S) n ≡ true
 idle_is_ready S R Q n index h =
     let o = idle_tells (slice_get S n) h in
     ready_from (nodes_of S) n (
@@ -573,7 +573,7 @@ ready_slot S R Q n index h =
       ],
     )
 
-pub idle_is : (S : List (Option Slot)) (R : Bool → ℕ → List ℕ) (Q : ℕ → List ℕ) (n : ℕ) → IsIndex S R Q → idle (slice_get S n) ≡ is_ready (nodes_of S) n
+pub idle_is : (S : List (Option Slot)) (R : Bool → ℕ → List ℕ) (Q : ℕ → List ℕ) (n : ℕ) → IsIndex S R Q → idle (pending S n) ≡ is_ready (nodes_of S) n
 idle_is S R Q n index = bool_same _ _ (idle_is_ready S R Q n index) (λ h. let r = ready_slot S R Q n index h in rw r.1 (eq-eqb r.0.waits 0 r.2))
 
 pub length-nodes_of : (S : List (Option Slot)) → length (nodes_of S) ≡ length S

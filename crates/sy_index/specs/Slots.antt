@@ -1,5 +1,5 @@
 -- What is kept of each node, and what the kept counts and lists mean.
-use Rattle.std.specs.Prelude.{◌≡◌, ℕ, zero, suc, ◌+◌, ◌-◌, ◌<◌, Bool, true, false, ◌==◌, ◌⊎◌, List, [], ◌∷◌, ◌++◌, map, length, take, Option, Some, None, slice_get, option_map, if◌then◌else◌}
+use Rattle.std.specs.Prelude.{◌≡◌, ℕ, zero, suc, ◌+◌, ◌-◌, ◌<◌, Bool, true, false, ◌==◌, ◌⊎◌, List, [], ◌∷◌, ◌++◌, map, length, take, Option, Some, None, slice_get, option_map, unwrap_or, if◌then◌else◌}
 use Rattle.std.specs.List.{flat_map}
 use Rattle.sy_access.specs.declared.access.Need.{Need}
 use Rattle.sy_access.specs.Needs.{writes}
@@ -39,11 +39,19 @@ unfoldable pub told : List (Option Slot) → List ℕ → List (Option Slot)
 told slots [] = slots
 told slots (m ∷ ms) = told (changed with_fewer slots m) ms
 
+-- the slot of the node n, where that is pending
+abbrev pub pending : List (Option Slot) → ℕ → Option Slot
+pending slots n = unwrap_or (slice_get slots n) None
+
 -- the node is pending and waits for none
-abbrev pub idle : Option (Option Slot) → Bool
-idle (Some (Some s)) = s.waits == 0
-idle (Some None) = false
+abbrev pub idle : Option Slot → Bool
+idle (Some s) = s.waits == 0
 idle None = false
+
+-- the slots behind k nodes that are done
+unfoldable pub behind : ℕ → List (Option Slot) → List (Option Slot)
+behind zero slots = slots
+behind (suc k) slots = None ∷ behind k slots
 
 -- the list of nodes, in which a node that is done is None
 abbrev pub node_of : Option Slot → Option Node
@@ -63,28 +71,20 @@ abbrev pub At : List (Option Slot) → ℕ → Slot → Type 0
 At slots m x = slice_get slots m ≡ Some (Some x)
 
 -- m is pending and comes before y
-abbrev pub holds_slot : Option (Option Slot) → ℕ → Node → Bool
-holds_slot (Some (Some x)) m y = before x.node m y
-holds_slot (Some None) m y = false
+abbrev pub holds_slot : Option Slot → ℕ → Node → Bool
+holds_slot (Some x) m y = before x.node m y
 holds_slot None m y = false
 
 unfoldable pub holds_at : List (Option Slot) → Node → ℕ → Bool
-holds_at slots y m = holds_slot (slice_get slots m) m y
-
--- the node at n, where it is pending
-abbrev pub pending_node : Option (Option Slot) → Option Node
-pending_node (Some (Some x)) = Some x.node
-pending_node (Some None) = None
-pending_node None = None
+holds_at slots y m = holds_slot (pending slots m) m y
 
 -- the node at m is done, or y covers each of its needs on the root
-abbrev pub superseded_slot : Option (Option Slot) → ℕ → Node → Bool
-superseded_slot (Some (Some x)) root y = superseded x.node root y
-superseded_slot (Some None) root y = true
+abbrev pub superseded_slot : Option Slot → ℕ → Node → Bool
+superseded_slot (Some x) root y = superseded x.node root y
 superseded_slot None root y = true
 
 unfoldable pub superseded_at : List (Option Slot) → ℕ → ℕ → Node → Bool
-superseded_at slots m root y = superseded_slot (slice_get slots m) root y
+superseded_at slots m root y = superseded_slot (pending slots m) root y
 
 -- n is pending and comes after m
 pub record Follows (slots : List (Option Slot)) (m : ℕ) (x : Slot) (n : ℕ) : Type 0 where
