@@ -1,6 +1,6 @@
 -- How often a list has a number, after a push and under a filter.
 use Rattle.std.proofs.Common.{◌≡◌, ◌≢◌, ◌⊎◌, inl, inr, ℕ, zero, suc, ◌+◌, ◌≤◌, get_or, Bool, true, false, cond, List, [], ◌∷◌, ◌++◌, refl, sym, ap, ◌∙◌, arith, zero-add}
-use Rattle.std.specs.Prelude.{not, if◌then◌else◌, ◌==◌}
+use Rattle.std.specs.Prelude.{if◌then◌else◌, ◌==◌}
 use Rattle.std.specs.List.{filter, remove}
 use Rattle.std.specs.Ordering.{nat_cmp}
 use Rattle.std.specs.declared.cmp.Ordering.TheVariants.{Equal}
@@ -84,10 +84,3 @@ filtered_chosen f key k p new m G true false at passes e gone h = inr (gone pass
 -- a list that is filtered at one key keeps a number, or the number doesn't pass there
 pub filtered_at : (f : ℕ → List ℕ) (key k : ℕ) (p : ℕ → Bool) (new : List ℕ) (m : ℕ) (G : Type 0) → new ≡ (if key == k then filter p (f key) else f k) → (p m ≡ false → key ≡ k → G) → Has (f k) m → Has new m ⊎ G
 filtered_at f key k p new m G e gone h = filtered_chosen f key k p new m G (key == k) (p m) refl refl e gone h
-
-pub not_same : (m n : ℕ) → m ≢ n → not (m == n) ≡ true
-not_same m n apart = other m n (m == n) refl apart
-  where
-    other : (m n : ℕ) (b : Bool) → (m == n) ≡ b → m ≢ n → not b ≡ true
-    other m n true e apart = absurd (apart (eqb-true m n e))
-    other m n false e apart = refl

@@ -1,9 +1,6 @@
 -- What is kept stays right when a node is added and when one is done, and tells which nodes are ready.
 use Rattle.std.proofs.Common.{◌≡◌, ◌≢◌, ◌⊎◌, inl, inr, ℕ, zero, suc, ◌+◌, ◌<◌, List, [], ◌∷◌, ◌++◌, length, map, Bool, true, false, ◌||◌, Option, Some, None, refl, sym, ap, ◌∙◌, subst, arith, set, take, add-one, get_or}
 use Rattle.std.specs.Prelude.{slice_get, option_map, unwrap_or, ◌==◌, if◌then◌else◌}
-use Rattle.std.proofs.Common.{Result, Ok, Err}
-use Rattle.std.specs.Prelude.{OnOk, OnErr}
-use Rattle.std.specs.Result.{is_err}
 use Rattle.std.specs.List.{filter, flat_map}
 use Rattle.std.proofs.lemmas.Bool.{eqb-true, eq-eqb, cases_Bool, cases_lt, or_cases}
 use Rattle.std.proofs.lemmas.Option.{slice_get-map, slice_get_within, slice_get-get_or, get_or_from_slice_get}
@@ -187,15 +184,6 @@ lists_kept S R R' Q Q' index roots queues = record {
     | inl h ↦ inl (queues q m (within S m x at) h)
     | inr c ↦ inr (record { by = c.by; slot = c.slot; at = c.at; later = c.later; listed = queues q c.by (within S c.by c.slot c.at) c.listed; same = c.same })
   ];
-}
-
-pub index_nil : (R : Bool → ℕ → List ℕ) (Q : ℕ → List ℕ) → IsIndex [] R Q
-index_nil R Q = record {
-  counted = λ n y at. absurd cc;
-  sound = λ m x n at h. absurd cc;
-  complete = λ m x n y lt at at' h. absurd cc;
-  rooted = λ m x i a at e. absurd cc;
-  queued = λ m x q at e. absurd cc;
 }
 
 -- the same end of a chain, where the slots have the same nodes
@@ -622,14 +610,6 @@ gathered_more h front f xs i a old new e was now =
 pub candidates_is : (R : Bool → ℕ → List ℕ) (Q : ℕ → List ℕ) (y : Node) → y.after ++ queue_numbers Q y.in_order ++ flat_map (root_numbers R) y.needs ≡ candidates R Q y
 unfolding candidates
 candidates_is R Q y = refl
-
-pub on_err : {A E : Type 0} (r : Result A E) (P : Type 0) → is_err r ≡ true → OnErr r P → P
-on_err (Ok a) P h p = absurd cc
-on_err (Err e) P h p = p
-
-pub on_ok : {A E : Type 0} (r : Result A E) (P : Type 0) → is_err r ≡ false → OnOk r P → P
-on_ok (Ok a) P h p = p
-on_ok (Err e) P h p = absurd cc
 
 -- an item of a loop over the needs, which the need at i is
 pub has_here : (f : Bool → ℕ → List ℕ) (xs ys : List Need) (i j : ℕ) (a d : Need) (w : Bool) (n : ℕ) → ys ≡ xs → j ≡ i → slice_get xs i ≡ Some a → w ≡ writes (get_or ys j d).mode → Has (f w (get_or ys j d).buffer) n → Has (f (writes a.mode) a.buffer) n

@@ -1,4 +1,4 @@
-use Rattle.std.proofs.Common.{◌<◌, length, ap, arith, inl, inr, subst, Bool, get_or}
+use Rattle.std.proofs.Common.{◌<◌, length, ap, arith, inl, inr}
 use Rattle.std.proofs.lemmas.Option.{slice_get_within}
 use Rattle.std.proofs.lemmas.Bool.{cases_lt}
 use Rattle.sy_index.specs.Listed.{by_root}

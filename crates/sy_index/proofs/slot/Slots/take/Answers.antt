@@ -1,4 +1,4 @@
-use Rattle.std.proofs.Common.{◌≡◌, ◌<◌, ◌∙◌, ◌+◌, ◌-◌, ap, sym, length, set, List, Option, None, arith, length-set}
+use Rattle.std.proofs.Common.{◌≡◌, ◌∙◌, ◌+◌, ◌-◌, ap, sym, length, set, List, Option, None, arith, length-set}
 use Rattle.sy_index.specs.declared.slot.Slot.{Slot}
 use Rattle.sy_index.specs.Slots.{behind}
 use Rattle.sy_index.proofs.Behind.{length-behind, set-behind, behind-behind}
