@@ -17,6 +17,12 @@ changed_beyond f [] m le = refl
 changed_beyond f (x ∷ xs) zero le = absurd (omega arith)
 changed_beyond f (x ∷ xs) (suc m) le = ap (λ (u : List (Option Slot)). x ∷ u) (changed_beyond f xs m (omega arith))
 
+pub length-changed : (f : Slot → Slot) (xs : List (Option Slot)) (j : ℕ) → length (changed f xs j) ≡ length xs
+unfolding changed
+length-changed f [] j = refl
+length-changed f (o ∷ xs) zero = refl
+length-changed f (o ∷ xs) (suc j) = ap suc (length-changed f xs j)
+
 pub linked-nil : (slots : List (Option Slot)) (n : ℕ) → linked slots n [] ≡ slots
 unfolding linked
 linked-nil slots n = refl

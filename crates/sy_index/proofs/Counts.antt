@@ -1,7 +1,10 @@
 -- How often a list has a number, after a push and under a filter.
-use Rattle.std.proofs.Common.{◌≡◌, ◌≢◌, ℕ, ◌+◌, ◌≤◌, Bool, true, false, cond, List, [], ◌∷◌, ◌++◌, refl, sym, ap, ◌∙◌, arith, zero-add}
-use Rattle.std.specs.Prelude.{not, if◌then◌else◌, ◌==◌}
-use Rattle.std.specs.List.{filter}
+use Rattle.std.proofs.Common.{◌≡◌, ◌≢◌, ◌⊎◌, inl, inr, ℕ, zero, suc, ◌+◌, ◌≤◌, get_or, Bool, true, false, cond, List, [], ◌∷◌, ◌++◌, refl, sym, ap, ◌∙◌, arith, zero-add}
+use Rattle.std.specs.Prelude.{if◌then◌else◌, ◌==◌}
+use Rattle.std.specs.List.{filter, remove}
+use Rattle.std.specs.Ordering.{nat_cmp}
+use Rattle.std.specs.declared.cmp.Ordering.TheVariants.{Equal}
+use Rattle.std.proofs.lemmas.Map.Lookups.{exact_unsigned}
 use Rattle.std.proofs.lemmas.Bool.{eqb-true, eq-eqb}
 use Rattle.sy_index.specs.Lists.{one_if, count, Has}
 
@@ -11,6 +14,26 @@ count-append (x ∷ xs) ys n = omega (arith, count-append xs ys n)
 
 pub one_at : (n : ℕ) → one_if (n == n) ≡ 1
 one_at n = ap one_if (eq-eqb n n refl)
+
+pub one_off : (m n : ℕ) → m ≢ n → one_if (m == n) ≡ 0
+one_off m n apart = go (m == n) refl
+  where
+    go : (b : Bool) → (m == n) ≡ b → one_if b ≡ 0
+    go true e = absurd (apart (eqb-true m n e))
+    go false e = refl
+
+count-removed : (xs : List ℕ) (i n m : ℕ) → get_or xs i n ≡ n → n ≢ m → count (remove xs i) m ≡ count xs m
+count-removed [] zero n m e apart = refl
+count-removed [] (suc i) n m e apart = refl
+count-removed (x ∷ xs) zero n m e apart = let off : one_if (x == m) ≡ 0 = rw e (one_off n m apart) in omega arith
+count-removed (x ∷ xs) (suc i) n m e apart = ap (λ (k : ℕ). one_if (x == m) + k) (count-removed xs i n m e apart)
+
+-- a number apart from the one that is removed stays
+pub has_removed : (xs ys : List ℕ) (i n m : ℕ) → nat_cmp (get_or xs i n) n ≡ Equal → ys ≡ remove xs i → m ≢ n → Has xs m → Has ys m
+has_removed xs ys i n m at e apart h =
+    let here : get_or xs i n ≡ n = exact_unsigned (get_or xs i n) n at in
+    let all : count (remove xs i) m ≡ count xs m = count-removed xs i n m here (λ k. apart (sym k)) in
+    rw e (omega arith)
 
 pub has_pushed : (xs : List ℕ) (n : ℕ) → Has (xs ++ n ∷ []) n
 has_pushed xs n =
@@ -53,9 +76,11 @@ chosen f key k here new m false same e keeps h = rw e h
 pub kept_at : (f : ℕ → List ℕ) (key k : ℕ) (here new : List ℕ) (m : ℕ) → new ≡ (if key == k then here else f k) → (Has (f key) m → Has here m) → Has (f k) m → Has new m
 kept_at f key k here new m e keeps h = chosen f key k here new m (key == k) refl e keeps h
 
-pub not_same : (m n : ℕ) → m ≢ n → not (m == n) ≡ true
-not_same m n apart = other m n (m == n) refl apart
-  where
-    other : (m n : ℕ) (b : Bool) → (m == n) ≡ b → m ≢ n → not b ≡ true
-    other m n true e apart = absurd (apart (eqb-true m n e))
-    other m n false e apart = refl
+filtered_chosen : (f : ℕ → List ℕ) (key k : ℕ) (p : ℕ → Bool) (new : List ℕ) (m : ℕ) (G : Type 0) (b pm : Bool) → (key == k) ≡ b → p m ≡ pm → new ≡ (if b then filter p (f key) else f k) → (p m ≡ false → key ≡ k → G) → Has (f k) m → Has new m ⊎ G
+filtered_chosen f key k p new m G false pm at passes e gone h = inl (rw e h)
+filtered_chosen f key k p new m G true true at passes e gone h = inl (rw e (has_filtered p (f key) m passes (let same : key ≡ k = eqb-true key k at in rw same h)))
+filtered_chosen f key k p new m G true false at passes e gone h = inr (gone passes (eqb-true key k at))
+
+-- a list that is filtered at one key keeps a number, or the number doesn't pass there
+pub filtered_at : (f : ℕ → List ℕ) (key k : ℕ) (p : ℕ → Bool) (new : List ℕ) (m : ℕ) (G : Type 0) → new ≡ (if key == k then filter p (f key) else f k) → (p m ≡ false → key ≡ k → G) → Has (f k) m → Has new m ⊎ G
+filtered_at f key k p new m G e gone h = filtered_chosen f key k p new m G (key == k) (p m) refl refl e gone h

@@ -5,7 +5,8 @@ use Rattle.std.proofs.lemmas.Bool.{eqb-true}
 use Rattle.sy_index.specs.declared.slot.Slot.{Slot}
 use Rattle.sy_index.specs.Lists.{one_if, count, Has}
 use Rattle.sy_index.specs.Slots.{changed, with_successor, with_fewer, linked, told, edges, At}
-use Rattle.sy_index.proofs.Counts.{count-append, one_at, has_pushed, has_kept}
+use Rattle.sy_index.proofs.Changed.{length-changed}
+use Rattle.sy_index.proofs.Counts.{count-append, one_at, one_off, has_pushed, has_kept}
 
 pub at_changed_from : (f : Slot → Slot) (xs : List (Option Slot)) (j m : ℕ) (x : Slot) → At xs m x → ((j ≢ m) × At (changed f xs j) m x) ⊎ ((j ≡ m) × At (changed f xs j) m (f x))
 unfolding changed
@@ -26,23 +27,10 @@ at_changed_back f (o ∷ xs) (suc j) zero x e = inl (λ h. omega arith, e)
 at_changed_back f (o ∷ xs) (suc j) (suc m) x e =
     elim (at_changed_back f xs j m x e) [ inl both ↦ inl (λ h. both.0 (omega arith), both.1) | inr both ↦ inr (ap suc both.0, both.1) ]
 
-pub length-changed : (f : Slot → Slot) (xs : List (Option Slot)) (j : ℕ) → length (changed f xs j) ≡ length xs
-unfolding changed
-length-changed f [] j = refl
-length-changed f (o ∷ xs) zero = refl
-length-changed f (o ∷ xs) (suc j) = ap suc (length-changed f xs j)
-
 pub length-linked : (xs : List (Option Slot)) (n : ℕ) (ms : List ℕ) → length (linked xs n ms) ≡ length xs
 unfolding linked
 length-linked xs n [] = refl
 length-linked xs n (m ∷ ms) = length-linked (changed (with_successor n) xs m) n ms ∙ length-changed (with_successor n) xs m
-
-one_off : (m n : ℕ) → m ≢ n → one_if (m == n) ≡ 0
-one_off m n apart = go (m == n) refl
-  where
-    go : (b : Bool) → (m == n) ≡ b → one_if b ≡ 0
-    go true e = absurd (apart (eqb-true m n e))
-    go false e = refl
 
 has_one : (m n : ℕ) → m ≡ n → one_if (m == n) ≡ 1
 has_one m n e = rw e (one_at n)

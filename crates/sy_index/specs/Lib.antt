@@ -1,3 +1,4 @@
+pub mod Cover
 pub mod Lists
 pub mod Listed
 pub mod Slots

@@ -3,8 +3,10 @@
 //! which wait for it. It tells what the plain list of `sy_graph` tells.
 #![tactic(auto)]
 
+mod cover;
 mod graph;
 mod lists;
+mod roots;
 mod slot;
 
 pub use graph::Graph;

@@ -207,6 +207,143 @@ fn nodes_wait(rt: HostRuntime) -> Result<(), Fail> {
     Ok(())
 }
 
+/// A node's place, its queue and its needs.
+type Asked<'a> = (u32, Option<u32>, &'a [Part]);
+
+/// Adds a node that names no other.
+fn enter(index: &mut Graph, alloc: Global, asked: Asked) -> Result<(), Fail>
+    requires { length index.old < 2 ^ 32 - 1 }
+    ensures { OnOk result (length index.new ≡ length index.old + 1) }
+{
+    let (place, queue, needs) = asked;
+    match index.add(node(alloc, place, queue, needs)?) {
+        Ok(_) => Ok(()),
+        Err(_) => Err("memory")?,
+    }
+}
+
+/// Of three nodes, whether the third is ready at first, and whether the second and the third are
+/// once the first is done.
+fn turns(
+    alloc: Global,
+    first: Asked,
+    second: Asked,
+    third: Asked,
+) -> Result<(bool, bool, bool), Fail> {
+    let mut index = Graph::new(alloc);
+    enter(&mut index, alloc, first)?;
+    enter(&mut index, alloc, second)?;
+    enter(&mut index, alloc, third)?;
+    let early = index.ready(2);
+    if index.ready(0) {
+        index.done(0);
+    }
+    Ok((early, index.ready(1), index.ready(2)))
+}
+
+#[test]
+fn nodes_wait_through_others(rt: HostRuntime) -> Result<(), Fail> {
+    use Mode::{Read, Write};
+    let whole: [Part; 1] = [(1, Write, 0, 8)];
+    let low: [Part; 1] = [(1, Write, 0, 4)];
+    let high: [Part; 1] = [(1, Write, 4, 8)];
+    let read: [Part; 1] = [(1, Read, 4, 8)];
+    let empty: [Part; 1] = [(1, Write, 9, 9)];
+    let two: [Part; 2] = [(1, Read, 0, 8), (1, Write, 0, 2)];
+    let none: [Part; 0] = [];
+    let cases: [(&str, Asked, Asked, Asked, (bool, bool, bool)); 7] = [
+        (
+            "the last writer stands for the first",
+            (0, None, &whole),
+            (0, None, &whole),
+            (0, None, &read),
+            (false, true, false),
+        ),
+        (
+            "a writer of a part doesn't",
+            (0, None, &whole),
+            (0, None, &low),
+            (0, None, &read),
+            (false, true, true),
+        ),
+        (
+            "nor does one at another place",
+            (0, None, &low),
+            (1, None, &low),
+            (1, None, &high),
+            (false, true, true),
+        ),
+        (
+            "one without elements does",
+            (0, None, &low),
+            (1, None, &empty),
+            (1, None, &high),
+            (false, true, false),
+        ),
+        (
+            "a writer after readers",
+            (0, None, &read),
+            (0, None, &whole),
+            (0, None, &read),
+            (false, true, false),
+        ),
+        (
+            "a need that isn't covered, of two",
+            (0, None, &two),
+            (0, None, &low),
+            (0, None, &high),
+            (false, true, true),
+        ),
+        (
+            "the last of a queue",
+            (0, Some(5), &none),
+            (0, Some(5), &none),
+            (1, Some(5), &none),
+            (false, true, false),
+        ),
+    ];
+    for (name, first, second, third, want) in cases {
+        assert_eq!(rt; turns(rt.alloc(), first, second, third)?, want, "{name}");
+    }
+    Ok(())
+}
+
+/// Adds a node that names the node `m`.
+fn enter_after(index: &mut Graph, alloc: Global, m: u32) -> Result<(), Fail>
+    requires room { length index.old < 2 ^ 32 - 1 }
+    requires named { m < length index.old }
+    ensures { OnOk result (length index.new ≡ length index.old + 1) }
+{
+    let mut after = Vec::new(alloc);
+    after.push(m)?;
+    let node = Node {
+        needs: Needs::of(Vec::new(alloc)),
+        after: Numbers::of(after),
+        in_order: None,
+        place: 0,
+    };
+    match index.add(node) {
+        Ok(_) => Ok(()),
+        Err(_) => Err("memory")?,
+    }
+}
+
+#[test]
+fn nodes_wait_for_those_named(rt: HostRuntime) -> Result<(), Fail> {
+    let alloc = rt.alloc();
+    let mut index = Graph::new(alloc);
+    enter(&mut index, alloc, (0, None, &[]))?;
+    assert!(rt; index.ready(0));
+    index.done(0);
+    enter_after(&mut index, alloc, 0)?;
+    enter_after(&mut index, alloc, 1)?;
+    assert!(rt; index.ready(1), "it names one that is done");
+    assert!(rt; !index.ready(2), "it names a pending one");
+    index.done(1);
+    assert!(rt; index.ready(2), "it named one that is done now");
+    Ok(())
+}
+
 /// The next number of the generator.
 fn draw(x: &mut u32) -> u32
     requires { x.old < 65537 }

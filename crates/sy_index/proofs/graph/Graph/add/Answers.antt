@@ -1,13 +1,12 @@
 -- Adding a node: what is kept stays right where it is added, and is as before where memory is short.
-use Rattle.std.proofs.Common.{◌≡◌, ℕ, ap, sym, ◌∙◌, subst, List, [], ◌∷◌, ◌++◌, Option, Some, length, reverse, arith}
+use Rattle.std.proofs.Common.{◌≡◌, ℕ, ◌<◌, ap, sym, ◌∙◌, subst, List, [], ◌∷◌, ◌++◌, Option, Some, length, arith}
 use Rattle.sy_graph.specs.declared.node.Node.{Node}
 use Rattle.sy_index.specs.declared.slot.Slot.{Slot}
-use Rattle.sy_index.specs.Lists.{Has}
-use Rattle.sy_index.specs.Listed.{listed}
-use Rattle.sy_index.specs.Slots.{IsIndex, linked, unlinked, nodes_of}
-use Rattle.sy_index.proofs.Changed.{unlinked-linked}
-use Rattle.sy_index.proofs.Kept.{lists_grow, index_added, length-nodes_of, nodes_of-linked, nodes_of-pushed, on_err, on_ok}
+use Rattle.sy_index.specs.Listed.{listed, by_root}
+use Rattle.sy_index.specs.Slots.{IsIndex, nodes_of}
+use Rattle.sy_index.proofs.Kept.{lists_kept, Added, added, index_shed_at, length-nodes_of, nodes_of-linked, nodes_of-pushed}
 use Rattle.sy_index.proofs.graph.Graph.add.Goals as goal
+use Rattle.sy_index.proofs.graph.Graph.add.Goals.{in-Some, in_default-node}
 
 pub overflow_cast-number : goal.overflow_cast-number
 overflow_cast-number c =
@@ -15,54 +14,52 @@ overflow_cast-number c =
     let all = length-nodes_of c.self.inside.slots in
     omega arith
 
-pub invariant_of-self-then-is_err-2 : goal.invariant_of-self-then-is_err-2
-invariant_of-self-then-is_err-2 c =
-    let same : c.link_all.new.self ≡ c.self.inside.slots = on_err c.link_all.result _ (sym c.is_err-2.ensures.value ∙ c.if-is_err-2.true) c.link_all.ensures.err in
-    subst (λ (v : List (Option Slot)). IsIndex v (listed c.enlist.new.roots) (listed c.enlist.new.queues)) (sym same)
-    (lists_grow c.self.inside.slots _ _ _ _ c.self.invariant c.enlist.ensures.roots_kept c.enlist.ensures.queues_kept)
+pub append-requires : goal.append-requires
+append-requires c =
+    let seen : length (nodes_of c.self.inside.slots) ≡ length c.args.self.now = ap length c.self.view_is in
+    let all = length-nodes_of c.self.inside.slots in
+    let room = c.requires.room in
+    omega arith
 
-pub invariant_of-self-in-Ok-push : goal.invariant_of-self-in-Ok-push
-invariant_of-self-in-Ok-push c =
-    let linked_all = on_ok c.link_all.result _ (sym c.is_err-2.ensures.value ∙ c.if-is_err-2.false) c.link_all.ensures.ok in
-    let rooted = on_ok c.enlist.result _ (sym c.is_err.ensures.value ∙ c.if-is_err.false) c.enlist.ensures.rooted in
-    let queued = on_ok c.enlist.result _ (sym c.is_err.ensures.value ∙ c.if-is_err.false) c.enlist.ensures.queued in
+pub invariant_of-self : goal.invariant_of-self
+invariant_of-self c =
+    let other = λ (m : ℕ) (lt : m < length c.self.inside.slots) (e : m ≡ c.len-number.result). let l = c.len-number.ensures in absurd (omega arith) in
+    lists_kept c.self.inside.slots (by_root c.self.inside.roots) (by_root c.delist.new.roots) (listed c.self.inside.queues) (listed c.delist.new.queues) c.self.invariant
+    (λ w k m lt h. c.delist.ensures.roots_kept w k m (other m lt) (c.enlist.ensures.roots_kept w k m h))
+    (λ k m lt h. c.delist.ensures.queues_kept k m (other m lt) (c.enlist.ensures.queues_kept k m h))
+
+pub invariant_of-self-in-Some : goal.invariant_of-self-in-Some
+invariant_of-self-in-Some c =
     let new : Slot = record { node = c.args.node; waits = c.len.result; next = c.new.result } in
-    let all : c.push.new.self ≡ linked c.self.inside.slots (length c.self.inside.slots) c.in-Ok.found.items ++ Some new ∷ [] =
-    c.in-Ok-push.ensures.ok ∙ ap (λ (v : List (Option Slot)). v ++ Some new ∷ []) (linked_all ∙ ap (linked c.self.inside.slots c.len-number.result) c.as_slice.ensures.value ∙ ap (λ (n : ℕ). linked c.self.inside.slots n c.in-Ok.found.items) c.len-number.ensures) in
     let count : c.len.result ≡ length c.in-Ok.found.items = c.len.ensures ∙ sym c.as_slice.ensures.len ∙ ap length c.as_slice.ensures.value in
-    subst (λ (v : List (Option Slot)). IsIndex v (listed c.enlist.new.roots) (listed c.enlist.new.queues)) (sym all)
-    (index_added c.self.inside.slots (listed c.self.inside.roots) (listed c.self.inside.queues) (listed c.enlist.new.roots) (listed c.enlist.new.queues) new c.in-Ok.found.items c.self.invariant c.in-Ok.ensures c.enlist.ensures.roots_kept c.enlist.ensures.queues_kept
-    (λ i a e. subst (λ (n : ℕ). Has (listed c.enlist.new.roots a.buffer) n) c.len-number.ensures (rooted i a e))
-    (λ q e. subst (λ (n : ℕ). Has (listed c.enlist.new.queues q) n) c.len-number.ensures (queued q e))
-    count c.new.ensures)
+    let made : Added c.self.inside.slots c.append.new.self (by_root c.enlist.new.roots) (listed c.enlist.new.queues) c.len-number.result new =
+    added c.self.inside.slots c.append.new.self (by_root c.self.inside.roots) (by_root c.enlist.new.roots) (listed c.self.inside.queues) (listed c.enlist.new.queues) new c.in-Ok.found.items c.as_slice.result.now c.len-number.result c.self.invariant c.in-Ok-append.ensures.ok c.as_slice.ensures.value c.len-number.ensures c.in-Ok.ensures c.enlist.ensures.roots_kept c.enlist.ensures.queues_kept c.in-Ok-enlist.ensures.rooted c.in-Ok-enlist.ensures.queued count c.new.ensures in
+    index_shed_at c.append.new.self (by_root c.enlist.new.roots) (by_root c.shed.new.roots) (listed c.enlist.new.queues) (listed c.shed.new.queues) c.len-number.result new c.in-Some.node.now made.index made.at made.end c.in-Some.ensures c.shed.ensures.roots_kept c.shed.ensures.queues_kept c.in-Ok-enlist.ensures.rooted c.in-Ok-enlist.ensures.queued
 
-pub returns-in-Ok-push-clause-number : goal.returns-in-Ok-push-clause-number
-returns-in-Ok-push-clause-number c = c.len-number.ensures ∙ sym (length-nodes_of c.self.inside.slots) ∙ ap length c.self.view_is
-
-pub returns-in-Ok-push-clause-added : goal.returns-in-Ok-push-clause-added
-returns-in-Ok-push-clause-added c =
-    let linked_all = on_ok c.link_all.result _ (sym c.is_err-2.ensures.value ∙ c.if-is_err-2.false) c.link_all.ensures.ok in
+pub invariant_of-self-in_default-node : goal.invariant_of-self-in_default-node
+invariant_of-self-in_default-node c =
     let new : Slot = record { node = c.args.node; waits = c.len.result; next = c.new.result } in
-    ap nodes_of (c.in-Ok-push.ensures.ok ∙ ap (λ (v : List (Option Slot)). v ++ Some new ∷ []) linked_all)
+    let count : c.len.result ≡ length c.in-Ok.found.items = c.len.ensures ∙ sym c.as_slice.ensures.len ∙ ap length c.as_slice.ensures.value in
+    let made : Added c.self.inside.slots c.append.new.self (by_root c.enlist.new.roots) (listed c.enlist.new.queues) c.len-number.result new =
+    added c.self.inside.slots c.append.new.self (by_root c.self.inside.roots) (by_root c.enlist.new.roots) (listed c.self.inside.queues) (listed c.enlist.new.queues) new c.in-Ok.found.items c.as_slice.result.now c.len-number.result c.self.invariant c.in-Ok-append.ensures.ok c.as_slice.ensures.value c.len-number.ensures c.in-Ok.ensures c.enlist.ensures.roots_kept c.enlist.ensures.queues_kept c.in-Ok-enlist.ensures.rooted c.in-Ok-enlist.ensures.queued count c.new.ensures in
+    made.index
+
+pub returns-in-Ok-append-clause-number : goal.returns-in-Ok-append-clause-number
+returns-in-Ok-append-clause-number c = c.len-number.ensures ∙ sym (length-nodes_of c.self.inside.slots) ∙ ap length c.self.view_is
+
+pub returns-in-Ok-append-clause-added : goal.returns-in-Ok-append-clause-added
+returns-in-Ok-append-clause-added c =
+    let new : Slot = record { node = c.args.node; waits = c.len.result; next = c.new.result } in
+    let all : nodes_of c.append.new.self ≡ c.args.self.now ++ Some c.args.node ∷ [] =
+    ap nodes_of c.in-Ok-append.ensures.ok
     ∙ nodes_of-pushed _ new
-    ∙ ap (λ (v : List (Option Node)). v ++ Some c.args.node ∷ []) (nodes_of-linked c.self.inside.slots _ _ ∙ c.self.view_is)
+    ∙ ap (λ (v : List (Option Node)). v ++ Some c.args.node ∷ []) (nodes_of-linked c.self.inside.slots _ _ ∙ c.self.view_is) in
+    elim c.match-node.branch [ in-Some w ↦ w.self-is ∙ all | in_default-node w ↦ w.self-is ∙ all ]
 
 pub invariant_of-self-in-Err : goal.invariant_of-self-in-Err
 invariant_of-self-in-Err c =
-    let linked_all = on_ok c.link_all.result _ (sym c.is_err-2.ensures.value ∙ c.if-is_err-2.false) c.link_all.ensures.ok in
-    let same : c.unlink_all.new.self ≡ c.self.inside.slots =
-    c.unlink_all.ensures
-    ∙ ap (λ (v : List ℕ). unlinked c.push.new.self (reverse v)) (c.as_slice-in-Err.ensures.value ∙ sym c.as_slice.ensures.value)
-    ∙ ap (λ (v : List (Option Slot)). unlinked v (reverse c.as_slice.result.now)) (c.in-Err.ensures.err ∙ linked_all)
-    ∙ unlinked-linked c.self.inside.slots c.len-number.result c.as_slice.result.now in
-    subst (λ (v : List (Option Slot)). IsIndex v (listed c.enlist.new.roots) (listed c.enlist.new.queues)) (sym same)
-    (lists_grow c.self.inside.slots _ _ _ _ c.self.invariant c.enlist.ensures.roots_kept c.enlist.ensures.queues_kept)
-
-pub returns-clause-unchanged : goal.returns-clause-unchanged
-returns-clause-unchanged c =
-    let linked_all = on_ok c.link_all.result _ (sym c.is_err-2.ensures.value ∙ c.if-is_err-2.false) c.link_all.ensures.ok in
-    ap nodes_of (c.unlink_all.ensures
-    ∙ ap (λ (v : List ℕ). unlinked c.push.new.self (reverse v)) (c.as_slice-in-Err.ensures.value ∙ sym c.as_slice.ensures.value)
-    ∙ ap (λ (v : List (Option Slot)). unlinked v (reverse c.as_slice.result.now)) (c.in-Err.ensures.err ∙ linked_all)
-    ∙ unlinked-linked c.self.inside.slots c.len-number.result c.as_slice.result.now)
-    ∙ c.self.view_is
+    let other = λ (m : ℕ) (lt : m < length c.self.inside.slots) (e : m ≡ c.len-number.result). let l = c.len-number.ensures in absurd (omega arith) in
+    subst (λ (v : List (Option Slot)). IsIndex v (by_root c.delist-in-Err.new.roots) (listed c.delist-in-Err.new.queues)) (sym c.in-Err.ensures.err)
+    (lists_kept c.self.inside.slots (by_root c.self.inside.roots) (by_root c.delist-in-Err.new.roots) (listed c.self.inside.queues) (listed c.delist-in-Err.new.queues) c.self.invariant
+    (λ w k m lt h. c.delist-in-Err.ensures.roots_kept w k m (other m lt) (c.enlist.ensures.roots_kept w k m h))
+    (λ k m lt h. c.delist-in-Err.ensures.queues_kept k m (other m lt) (c.enlist.ensures.queues_kept k m h)))

@@ -4,7 +4,7 @@ use Rattle.std.proofs.lemmas.Option.{slice_get_within}
 use Rattle.sy_graph.specs.Before.{is_ready}
 use Rattle.sy_graph.specs.declared.node.Node.{Node}
 use Rattle.sy_index.specs.declared.slot.Slot.{Slot}
-use Rattle.sy_index.specs.Listed.{listed}
+use Rattle.sy_index.specs.Listed.{listed, by_root}
 use Rattle.sy_index.specs.Slots.{IsIndex, told, nodes_of}
 use Rattle.sy_index.proofs.Kept.{ready_slot, index_done, nodes_of-told, nodes_of-taken}
 use Rattle.sy_index.proofs.graph.Graph.done.Goals as goal
@@ -20,8 +20,8 @@ invariant_of-self c =
     let same : r.0 ≡ c.in-Some.slot = (let a = r.1 in let b = c.in-Some.ensures.taken in cc) in
     let free : c.in-Some.slot.waits ≡ 0 = sym (ap (λ (s : Slot). s.waits) same) ∙ r.2 in
     let all : c.tell_all.new.self ≡ told (set c.self.inside.slots c.args.n None) c.in-Some.slot.next = (let a = c.tell_all.ensures in let b = c.take.ensures.left in let d = c.numbers.ensures in cc) in
-    subst (λ (v : List (Option Slot)). IsIndex v (listed c.delist.new.roots) (listed c.delist.new.queues)) (sym all)
-    (index_done c.self.inside.slots (listed c.self.inside.roots) (listed c.self.inside.queues) _ _ c.args.n c.in-Some.slot c.self.invariant c.in-Some.ensures.taken free c.delist.ensures.roots_kept c.delist.ensures.queues_kept)
+    subst (λ (v : List (Option Slot)). IsIndex v (by_root c.delist.new.roots) (listed c.delist.new.queues)) (sym all)
+    (index_done c.self.inside.slots (by_root c.self.inside.roots) (by_root c.delist.new.roots) (listed c.self.inside.queues) (listed c.delist.new.queues) c.args.n c.in-Some.slot c.self.invariant c.in-Some.ensures.taken free c.delist.ensures.roots_kept c.delist.ensures.queues_kept)
 
 pub returns-in-Some : goal.returns-in-Some
 returns-in-Some c =

@@ -1,0 +1,7 @@
+pub mod Each
+pub mod Commands
+pub mod Parts
+pub mod Slots
+pub mod Places
+pub mod Current
+pub mod Calls

@@ -1,0 +1,7 @@
+use Rattle.std.proofs.Common.{◌≢◌, ℕ, Bool}
+use Rattle.sy_index.specs.Lists.{Has}
+use Rattle.sy_index.specs.Listed.{by_root}
+use Rattle.sy_index.proofs.roots.Roots.delist.Given as goal
+
+abbrev pub invariant-loop-need : goal.invariant-loop-need
+invariant-loop-need l = (w : Bool) (k m : ℕ) → m ≢ l.n → Has (by_root l.initial.self w k) m → Has (by_root l.self w k) m
