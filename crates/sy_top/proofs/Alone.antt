@@ -39,7 +39,7 @@ printed_alone : (b : Board) (t : ℕ) (bytes : List ℕ) → Alone b → Alone (
 unfolding printed
 printed_alone b t bytes alone =
     either (nat_le (length b.output + length bytes) (2 ^ 24)) _ _
-        (record { none = alone.none; one = length-set b.waits t _ ∙ alone.one }) (record { none = alone.none; one = alone.one })
+    (record { none = alone.none; one = length-set b.waits t _ ∙ alone.one }) (record { none = alone.none; one = alone.one })
 
 sum_alone : (b : Board) (t : ℕ) (v : Bool) (line : ℕ) (g : Given) → Alone b → Alone (apply b t (ask_of_sum v line g))
 unfolding apply

@@ -12,9 +12,7 @@ use itoa::Buffer;
 use std::alloc::{AllocError, Global};
 use std::thread::Threads;
 use sy_access::{Bytes, Log, Values};
-use sy_work::{
-    Answer, Ask, Cause, Command, Halt, Host, HostStop, Inputs, Outcome, Runner,
-};
+use sy_work::{Answer, Ask, Cause, Command, Halt, Host, HostStop, Inputs, Outcome, Runner};
 
 /// An ask that was made: the sum that main is at, and whether a turn was left for its print.
 #[derive(Clone, Copy)]

@@ -9,9 +9,9 @@ use Rattle.sy_top.proofs.call.run_sums.Goals as goal
 
 pub run_plain-requires-clause-begins : goal.run_plain-requires-clause-begins
 run_plain-requires-clause-begins c = (
-    sums_program c.args.set.now.turns c.args.pieces.now,
-    record { at = c.new-main.ensures.begins; outcome = refl },
-    λ order s t submission legal may asks. tt,
+  sums_program c.args.set.now.turns c.args.pieces.now,
+  record { at = c.new-main.ensures.begins; outcome = refl },
+  λ order s t submission legal may asks. tt,
 )
 
 pub returns : goal.returns
