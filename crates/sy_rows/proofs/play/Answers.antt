@@ -10,4 +10,4 @@ run_plain-requires-clause-begins c = (
 )
 
 pub returns : goal.returns
-returns c = c.in_ok-end.ensures (program_of c.args.scripts.items c.args.table.items) (record { at = c.in_ok-main.ensures.begins; outcome = sym c.new-runner.ensures.outcomes })
+returns c = c.in_ok-end.ensures.run (program_of c.args.scripts.items c.args.table.items) (record { at = c.in_ok-main.ensures.begins; outcome = sym c.new-runner.ensures.outcomes })
