@@ -1,6 +1,6 @@
 // Asks as plain data, from which rows are written.
 
-ghost use Rattle.std.specs.Prelude.{◌≤◌, ◌≡◌, ◌+◌, ◌^◌, length};
+ghost use Rattle.std.specs.Prelude.{◌≡◌, IfOk};
 
 use std::alloc::{AllocError, Global};
 use sy_access::{Bytes, Cell, Device, Log, Mode, Need, Needs, Numbers, Sizes, Values};
@@ -26,22 +26,22 @@ pub enum Does {
 
 /// An ask.
 #[derive(Clone, Copy)]
-pub enum Do<'a> {
-    Print(&'a str),
+pub enum Do {
+    Print(&'static str),
     /// A buffer from a range of so many elements.
     Buffer(u64),
     /// A buffer over a vector.
-    Over(&'a [i128]),
+    Over(&'static [i128]),
     /// Elements of a buffer: the first of them, and how many.
     Part(u32, u32, u64),
     End(u32),
     Open(Wanted),
-    Close(u32, &'a [i128]),
+    Close(u32, &'static [i128]),
     Context,
     /// A queue of the context at the place, in order or not.
     Queue(u32, bool),
     /// A command on a queue with its needs, behind the nodes that it names.
-    Submit(u32, Does, &'a [Wanted], &'a [u32]),
+    Submit(u32, Does, &'static [Wanted], &'static [u32]),
     WaitNode(u32),
     Throw(u32),
     Spawn(u32),
@@ -51,10 +51,10 @@ pub enum Do<'a> {
 
 /// The answer that an ask wants.
 #[derive(Clone, Copy)]
-pub enum Gets<'a> {
+pub enum Gets {
     Done,
     Number(u32),
-    Contents(&'a [i128]),
+    Contents(&'static [i128]),
     Refused(Errc),
     /// None comes, or it isn't looked at.
     Any,
@@ -62,14 +62,16 @@ pub enum Gets<'a> {
 
 /// What a kernel does: it writes numbers to the elements of a buffer from this one on, or fails.
 #[derive(Clone, Copy)]
-pub enum Outcomes<'a> {
-    Writes(u32, u32, &'a [i128]),
+pub enum Outcomes {
+    Writes(u32, u32, &'static [i128]),
     /// It writes a number to elements 0, 2 and 4 of a buffer.
     WritesEven(u32, i128),
     Fails(Fault),
 }
 
-fn values(alloc: Global, numbers: &[i128]) -> Result<Values, AllocError> {
+fn values(alloc: Global, numbers: &[i128]) -> Result<Values, AllocError>
+    ensures { IfOk result (λ values. values ≡ numbers.now) }
+{
     Ok(Values::of(Vec::from_slice(alloc, numbers)?))
 }
 
@@ -173,9 +175,9 @@ fn line(alloc: Global, what: &Do, gets: &Gets) -> Result<Line, AllocError> {
 }
 
 /// Some lines of a script.
-pub type Part<'a> = &'a [(Do<'a>, Gets<'a>)];
+pub type Part = &'static [(Do, Gets)];
 
-fn add_part(alloc: Global, to: &mut Vec<Line>, part: Part<'_>) -> Result<(), AllocError> {
+fn add_part(alloc: Global, to: &mut Vec<Line>, part: Part) -> Result<(), AllocError> {
     for (what, gets) in part {
         to.push(line(alloc, what, gets)?)?;
     }
@@ -183,7 +185,7 @@ fn add_part(alloc: Global, to: &mut Vec<Line>, part: Part<'_>) -> Result<(), All
 }
 
 /// The script of a body, whose lines come in parts.
-pub fn script(alloc: Global, parts: &[Part<'_>]) -> Result<Script, AllocError> {
+pub fn script(alloc: Global, parts: &[Part]) -> Result<Script, AllocError> {
     let mut lines = Vec::new(alloc);
     for part in parts {
         add_part(alloc, &mut lines, part)?;
