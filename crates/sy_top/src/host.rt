@@ -1,9 +1,10 @@
 // A main that prints sums, as a host that is suspended at its asks.
 
-ghost use Rattle.std.specs.Prelude.{◌≡◌, ◌-◌, ◌<◌, [], length, Some, None, IfOk, ⊤};
+ghost use Rattle.std.specs.Prelude.{◌≡◌, ◌-◌, ℕ, ℤ, List, [], length, None, IfOk, ⊤};
 ghost use Rattle.std.specs.Fmt.{signed_decimal};
 ghost use Rattle.sy_work.specs.declared.commands.Outcome.TheVariants.{Wrote};
-ghost use Rattle.sy_top.specs.Hosts.{IsAt, PlaysSums, open_ask};
+ghost use Rattle.sy_work.specs.Programs.{NextAsk};
+ghost use Rattle.sy_top.specs.Hosts.{PlaysSums, last_ask, next_ask, open_ask, opened_ask};
 ghost use Rattle.sy_top.specs.Sums as spec;
 
 use crate::form::Piece;
@@ -14,11 +15,18 @@ use std::thread::Threads;
 use sy_access::{Bytes, Log, Values};
 use sy_work::{Answer, Ask, Cause, Command, Halt, Host, HostStop, Inputs, Outcome, Runner};
 
-/// An ask that was made: the sum that main is at, and whether a turn was left for its print.
+/// What main asks next: to print a number, or its last ask, which is to halt or else to finish.
 #[derive(Clone, Copy)]
-pub struct Asked {
-    pub in_turns: bool,
-    pub whole: Option<Operand>,
+pub enum Next {
+    Print(i128),
+    Last(Option<Halt>),
+}
+
+/// An ask that is open. A print is known by its number, so that its bytes needn't be kept.
+#[derive(Drop)]
+pub enum Opened {
+    Print(i128),
+    Other(Ask),
 }
 
 /// A main that prints sums.
@@ -30,14 +38,14 @@ pub struct Sums<'a> {
     /// What is left of the pieces, and of the turns.
     rest: &'a [Piece],
     left: u64,
-    asked: Option<Asked>,
+    opened: Option<Opened>,
 }
 
 impl<'a> Sums<'a> {
     /// Main at its start.
     pub fn new(alloc: Global, pieces: &'a [Piece], turns: u64) -> Sums<'a>
         ensures closed { ⟦<Sums<'a> as Host>⟧.pending result ≡ None }
-        ensures begins { ⟦<Sums<'a> as Host>⟧.stands result (spec.sums_program turns pieces.now).next 0 [] [] }
+        ensures begins { (next : NextAsk) (body : ℕ) (captures : List ℤ) → PlaysSums next turns pieces.now → ⟦<Sums<'a> as Host>⟧.stands result next body captures [] }
     {
         Sums {
             alloc,
@@ -45,7 +53,7 @@ impl<'a> Sums<'a> {
             turns,
             rest: pieces,
             left: turns,
-            asked: None,
+            opened: None,
         }
     }
 }
@@ -60,36 +68,64 @@ fn decimal(alloc: Global, number: i128) -> Result<Bytes, AllocError>
 }
 
 /// What main asks at this sum.
-fn ask_here(alloc: Global, in_turns: bool, whole: Option<Operand>) -> Result<Ask, AllocError>
-    ensures { IfOk result (λ ask. ask ≡ spec.ask_here in_turns whole) }
+fn next_at(in_turns: bool, whole: Option<Operand>) -> Next
+    ensures { next_ask result ≡ spec.ask_here in_turns whole }
 {
     let Some(whole) = whole else {
-        return Ok(Ask::Finish(0));
+        return Next::Last(None);
     };
     match whole.given {
-        Given::Overflow(line) => Ok(Ask::Halt(Halt::Trapped(Cause::Overflow, line))),
+        Given::Overflow(line) => Next::Last(Some(Halt::Trapped(Cause::Overflow, line))),
         Given::Number(number) => {
             if in_turns {
-                Ok(Ask::Print(decimal(alloc, number)?))
+                Next::Print(number)
             } else {
-                Ok(Ask::Halt(Halt::TurnsSpent(whole.line)))
+                Next::Last(Some(Halt::TurnsSpent(whole.line)))
             }
         }
     }
 }
 
+fn last_ask(halt: Option<Halt>) -> Ask
+    ensures { result ≡ last_ask halt }
+{
+    match halt {
+        Some(halt) => Ask::Halt(halt),
+        None => Ask::Finish(0),
+    }
+}
+
+impl Next {
+    fn ask(self, alloc: Global) -> Result<Ask, AllocError>
+        ensures { IfOk result (λ ask. ask ≡ next_ask self) }
+    {
+        match self {
+            Next::Print(number) => Ok(Ask::Print(decimal(alloc, number)?)),
+            Next::Last(halt) => Ok(last_ask(halt)),
+        }
+    }
+
+    fn opened(self) -> Opened
+        ensures { opened_ask result ≡ next_ask self }
+    {
+        match self {
+            Next::Print(number) => Opened::Print(number),
+            Next::Last(halt) => Opened::Other(last_ask(halt)),
+        }
+    }
+}
+
 impl<'a> Host for Sums<'a> {
-    ghost pending = { λ s. open_ask s.asked };
+    ghost pending = { λ s. open_ask s.opened };
 
     ghost left = { λ s. s.left };
 
-    ghost stands = { λ s next body captures answers. PlaysSums next s.turns s.pieces.now × (s.left ≡ s.turns - length answers) × (s.rest.now ≡ spec.after_sums (length answers) s.pieces.now) × IsAt s.asked s.rest.now };
+    ghost stands = { λ s next body captures answers. PlaysSums next s.turns s.pieces.now × (s.left ≡ s.turns - length answers) × (s.rest.now ≡ spec.after_sums (length answers) s.pieces.now) };
 
     fn next(&mut self, _slice: u32) -> Result<HostStop, AllocError> {
-        let whole = operand_at(self.rest);
-        let in_turns = 0 < self.left;
-        let ask = ask_here(self.alloc, in_turns, whole)?;
-        self.asked = Some(Asked { in_turns, whole });
+        let next = next_at(0 < self.left, operand_at(self.rest));
+        let ask = next.ask(self.alloc)?;
+        self.opened = Some(next.opened());
         Ok(HostStop::Asked(ask))
     }
 
@@ -97,7 +133,7 @@ impl<'a> Host for Sums<'a> {
         let parts = parts_of(&operand_at(self.rest));
         self.rest = self.rest.split_at(parts).1;
         self.left = self.left.saturating_sub(1);
-        self.asked = None;
+        self.opened = None;
         Ok(())
     }
 

@@ -4,4 +4,4 @@ use Rattle.sy_top.proofs.host.Sums.new.Goals as goal
 
 pub returns-clause-begins : goal.returns-clause-begins
 unfolding after_sums
-returns-clause-begins c = (λ body captures answers. refl, omega arith, refl, tt)
+returns-clause-begins c = λ next body captures plays. (plays, omega arith, refl)
