@@ -1,6 +1,6 @@
 #!/bin/bash
 # Counts the instructions of the built program on sources of sums, by callgrind, and its peak memory.
-# Usage: bench/front.sh [KiB ..]   (64 256 1024 if left out). Needs valgrind and python3.
+# Usage: bench/front.sh [KiB ..]   (64 256 1024 if left out). Needs valgrind, python3 and /usr/bin/time.
 set -eu
 cd "$(dirname "$0")/.."
 program=crates/syclrun/out/syclrun
@@ -21,12 +21,8 @@ PY
     valgrind --tool=callgrind --callgrind-out-file="$work/out" "$program" serial \
         <"$work/source" >/dev/null 2>"$work/log"
     count=$(sed -n 's/.*Collected : \([0-9]*\).*/\1/p' "$work/log")
-    python3 - "$size" "$count" "$program" "$work/source" <<'PY'
-import resource, subprocess, sys
-size, count = int(sys.argv[1]), int(sys.argv[2])
-with open(sys.argv[4]) as source:
-    subprocess.run([sys.argv[3], "serial"], stdin=source, stdout=subprocess.DEVNULL, check=True)
-peak = resource.getrusage(resource.RUSAGE_CHILDREN).ru_maxrss
-print(f"{size} KiB: {count} instructions, {count / (size * 1024):.1f} a byte, peak {peak} KiB")
-PY
+    peak=$(/usr/bin/time -f %M "$program" serial <"$work/source" 2>&1 >/dev/null | tail -n 1)
+    awk -v size="$size" -v count="$count" -v peak="$peak" 'BEGIN {
+        printf "%d KiB: %d instructions, %.1f a byte, peak %d KiB\n", size, count, count / (size * 1024), peak
+    }'
 done
