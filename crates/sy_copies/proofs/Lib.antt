@@ -5,3 +5,4 @@ pub mod Changes
 pub mod Entries
 pub mod Agreement
 pub mod Roots
+pub mod Refused

@@ -1,6 +1,6 @@
 // What a caller asks to keep the conditions of the calls.
 
-ghost use Rattle.std.specs.Prelude.{◌≡◌, ◌-◌, ◌^◌, ◌<◌, length, IsTrue};
+ghost use Rattle.std.specs.Prelude.{◌≡◌, ◌-◌, ◌^◌, ◌<◌, ◌≤◌, false, length, IsTrue};
 ghost use Rattle.sy_copies.specs.Current.{len_at, has_room};
 ghost use Rattle.sy_copies.specs.Calls.{MayPublish, MayRenew};
 
@@ -11,7 +11,8 @@ use sy_access::Need;
 impl Copies {
     /// Whether one more buffer may be made.
     pub fn may_make(&self) -> bool
-        ensures { IsTrue result → length self.now < 2 ^ 32 - 1 }
+        ensures may { IsTrue result → length self.now < 2 ^ 32 - 1 }
+        ensures full { result ≡ false → 2 ^ 32 - 1 ≤ length self.now }
     {
         self.buffers.len() < 0xffff_ffff
     }
@@ -46,7 +47,8 @@ impl Copies {
 
     /// Whether a command with these needs may be published at the place.
     pub fn may_publish(&self, place: u32, needs: &[Need]) -> bool
-        ensures { IsTrue result → MayPublish self.now place needs.now }
+        ensures may { IsTrue result → MayPublish self.now place needs.now }
+        ensures may_not { result ≡ false → MayPublish self.now place needs.now → ⊥ }
     {
         for need in needs {
             if need.mode.writes() && !self.may_renew(place, need.buffer, needs) {
@@ -58,7 +60,8 @@ impl Copies {
 
     /// Whether the root has room at the place, and is current there if its numbers are needed.
     fn may_renew(&self, place: u32, root: u32, needs: &[Need]) -> bool
-        ensures { IsTrue result → MayRenew self.now place needs.now root }
+        ensures may { IsTrue result → MayRenew self.now place needs.now root }
+        ensures may_not { result ≡ false → MayRenew self.now place needs.now root → ⊥ }
     {
         match self.len(root) {
             Some(len) => self.has_room(place, root)
