@@ -1,0 +1,4 @@
+pub mod Begins
+pub mod Fronts
+pub mod Maps
+pub mod Theorems

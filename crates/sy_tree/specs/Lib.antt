@@ -1,0 +1,11 @@
+pub mod Beginnings
+pub mod Declarations
+pub mod Expressions
+pub mod Grammar
+pub mod Layers
+pub mod Lists
+pub mod Qualification
+pub mod Statements
+pub mod Types
+pub mod Units
+pub mod Words

@@ -1,0 +1,28 @@
+//! The tree of a source, and the grammar that relates it to tokens.
+#![tactic(auto)]
+
+mod boxes;
+pub mod laws;
+mod operators;
+mod parts;
+mod things;
+mod tree;
+mod typed;
+
+pub use boxes::{boxed_expr, boxed_stmt};
+pub use operators::{AssignmentOperator, Operator};
+pub use parts::{
+    AccessTag, Brackets, Capture, ConstSpecifier, ElementArguments, FunctionObject, IntegerType,
+    LambdaParameter, LambdaParameterType, Lexeme, LibraryFunction, ObjectType, Parameter,
+    Qualified, ReferenceType, ReturnType, Step, TemplateArgument, TypeSpecifier,
+};
+pub use things::{Declared, Dimensions, ErrorName, Member, Thing};
+pub use tree::{
+    Argument, Block, Constant, Declaration, Declarator, Expr, FileItem, FullExpression, Function,
+    Initializer, Lambda, Printed, Stmt, Unit,
+};
+pub use typed::{
+    Program, Typed, TypedArgument, TypedBlock, TypedCapture, TypedConstant, TypedDeclaration,
+    TypedDeclarator, TypedFull, TypedFunction, TypedInitializer, TypedLambda, TypedNode, TypedPrinted,
+    TypedStmt, Variable,
+};
