@@ -1,0 +1,7 @@
+pub mod Exprs
+pub mod Input
+pub mod Parts
+pub mod Reading
+pub mod Reads
+pub mod Stmts
+pub mod Tables
