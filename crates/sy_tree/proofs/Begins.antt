@@ -1,11 +1,9 @@
 -- What a tree begins with.
 use Prim.Native.String.{String}
-use Rattle.std.proofs.Common.{◌≡◌, ℕ, ◌≤◌, Bool, true, false, ◌||◌, ◌&&◌, List, [], ◌∷◌, Option, Some, None, refl, sym, ap, ◌∙◌, ◌⊎◌, inl, inr}
-use Rattle.sy_lex.specs.declared.Row.TheVariants as row
+use Rattle.std.proofs.Common.{◌≡◌, ℕ, Bool, true, false, ◌||◌, ◌&&◌, List, [], ◌∷◌, Some, None, refl, ap, ◌∙◌, inl, inr}
 use Rattle.sy_lex.specs.declared.Token.{Token}
 use Rattle.sy_lex.specs.declared.Word.{Word}
 use Rattle.sy_note.specs.declared.Spot.{Spot}
-use Rattle.sy_num.specs.declared.BinOp.{BinOp}
 use Rattle.sy_num.specs.declared.Kind.{Kind}
 use Rattle.sy_num.specs.declared.Kind.TheVariants as kind
 use Rattle.sy_num.specs.declared.UnOp.{UnOp}
@@ -20,21 +18,19 @@ use Rattle.sy_tree.specs.declared.parts.Step.TheVariants as step
 use Rattle.sy_tree.specs.declared.parts.TypeSpecifier.{TypeSpecifier}
 use Rattle.sy_tree.specs.declared.parts.TypeSpecifier.TheVariants as specifier
 use Rattle.sy_tree.specs.declared.tree.Argument.TheOpen.{Declaration-F, Expr-F, FullExpression-F, Stmt-F}
-use Rattle.sy_tree.specs.declared.tree.Block.{out-Block}
 use Rattle.sy_tree.specs.declared.tree.Declaration.{out-Declaration}
-use Rattle.sy_tree.specs.declared.tree.Expr.{Expr, out-Expr}
-use Rattle.sy_tree.specs.declared.tree.FullExpression.{FullExpression, out-FullExpression}
-use Rattle.sy_tree.specs.declared.tree.Lambda.{out-Lambda}
-use Rattle.sy_tree.specs.declared.tree.Stmt.{Stmt, out-Stmt}
+use Rattle.sy_tree.specs.declared.tree.Expr.{out-Expr}
+use Rattle.sy_tree.specs.declared.tree.FullExpression.{out-FullExpression}
+use Rattle.sy_tree.specs.declared.tree.Stmt.{out-Stmt}
 use Rattle.sy_tree.specs.Beginnings.{opens_type, opens_expr, opens_declaration, opens_stmt, opens, first}
 use Rattle.sy_tree.specs.Declarations.{DeclarationRule}
-use Rattle.sy_tree.specs.Expressions.{Node, an_expr, a_lambda, a_full, a_block, a_stmt, ExprRule, LambdaRule}
+use Rattle.sy_tree.specs.Expressions.{Node, an_expr, a_lambda, a_full, a_block, a_stmt, ExprRule}
 use Rattle.sy_tree.specs.Grammar.{NodeRule}
-use Rattle.sy_tree.specs.Layers.{BlockLayer, DeclarationLayer, ExprLayer, FullExpressionLayer, LambdaLayer, StmtLayer}
+use Rattle.sy_tree.specs.Layers.{DeclarationLayer, ExprLayer, FullExpressionLayer, StmtLayer}
 use Rattle.sy_tree.specs.Lists.{Rule}
-use Rattle.sy_tree.specs.Statements.{BlockRule, FullRule, StmtRule}
+use Rattle.sy_tree.specs.Statements.{FullRule, StmtRule}
 use Rattle.sy_tree.specs.Types.{Integral, Object, TypeSpecified, ConstSpecified}
-use Rattle.sy_tree.specs.Words.{At, Sees, Within, Sycl, Std, Spelled, SpelledAs, spellings, mark, keyword, identifier, unary_spelling, step_spelling}
+use Rattle.sy_tree.specs.Words.{At, Spelled, SpelledAs, spellings, mark, keyword, identifier, unary_spelling, step_spelling}
 
 -- ---- first words
 

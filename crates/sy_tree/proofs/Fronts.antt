@@ -1,46 +1,36 @@
 -- What follows a tree is the list without some of its first tokens.
-use Rattle.std.proofs.Common.{◌≡◌, ℕ, zero, suc, ◌+◌, ◌≤◌, Bool, true, false, List, [], ◌∷◌, length, drop, Option, Some, None, refl, sym, ap, ◌∙◌, arith, length-drop, drop-drop, ◌⊎◌, inl, inr}
+use Rattle.std.proofs.Common.{◌≡◌, ℕ, ◌+◌, ◌≤◌, Bool, true, false, List, [], ◌∷◌, length, drop, Option, Some, None, refl, sym, ap, ◌∙◌, arith, length-drop, drop-drop, inl, inr}
 use Prim.Native.String.{String}
-use Rattle.sy_lex.specs.declared.Row.{Row}
 use Rattle.sy_lex.specs.declared.Token.{Token}
 use Rattle.sy_lex.specs.declared.Word.{Word}
 use Rattle.sy_note.specs.declared.Spot.{Spot}
 use Rattle.sy_tree.specs.declared.parts.Brackets.{Brackets}
-use Rattle.sy_tree.specs.declared.parts.Capture.{Capture}
 use Rattle.sy_tree.specs.declared.parts.Capture.TheVariants as capture
-use Rattle.sy_tree.specs.declared.parts.ConstSpecifier.{ConstSpecifier}
 use Rattle.sy_tree.specs.declared.parts.ConstSpecifier.TheVariants as const
-use Rattle.sy_tree.specs.declared.parts.ElementArguments.{ElementArguments}
-use Rattle.sy_tree.specs.declared.parts.IntegerType.{IntegerType}
-use Rattle.sy_tree.specs.declared.parts.LambdaParameter.{LambdaParameter}
-use Rattle.sy_tree.specs.declared.parts.LambdaParameterType.{LambdaParameterType}
 use Rattle.sy_tree.specs.declared.parts.LambdaParameterType.TheVariants as lambda
 use Rattle.sy_tree.specs.declared.parts.Lexeme.{Lexeme}
-use Rattle.sy_tree.specs.declared.parts.ObjectType.{ObjectType}
 use Rattle.sy_tree.specs.declared.parts.ObjectType.TheVariants as object
 use Rattle.sy_tree.specs.declared.parts.Qualified.{Qualified}
-use Rattle.sy_tree.specs.declared.parts.TemplateArgument.{TemplateArgument}
 use Rattle.sy_tree.specs.declared.parts.TemplateArgument.TheVariants as template
-use Rattle.sy_tree.specs.declared.parts.TypeSpecifier.{TypeSpecifier}
 use Rattle.sy_tree.specs.declared.parts.TypeSpecifier.TheVariants as specifier
 use Rattle.sy_tree.specs.declared.tree.Argument.{Argument, out-Argument}
 use Rattle.sy_tree.specs.declared.tree.Argument.TheOpen.{Argument-F, Declaration-F, Declarator-F, Expr-F, FullExpression-F, Initializer-F, Printed-F, Stmt-F}
 use Rattle.sy_tree.specs.declared.tree.Block.{out-Block}
 use Rattle.sy_tree.specs.declared.tree.Declaration.{out-Declaration}
-use Rattle.sy_tree.specs.declared.tree.Declarator.{Declarator, out-Declarator}
-use Rattle.sy_tree.specs.declared.tree.Expr.{Expr, out-Expr}
-use Rattle.sy_tree.specs.declared.tree.FullExpression.{FullExpression, out-FullExpression}
-use Rattle.sy_tree.specs.declared.tree.Initializer.{Initializer, out-Initializer}
+use Rattle.sy_tree.specs.declared.tree.Declarator.{out-Declarator}
+use Rattle.sy_tree.specs.declared.tree.Expr.{out-Expr}
+use Rattle.sy_tree.specs.declared.tree.FullExpression.{out-FullExpression}
+use Rattle.sy_tree.specs.declared.tree.Initializer.{out-Initializer}
 use Rattle.sy_tree.specs.declared.tree.Lambda.{out-Lambda}
-use Rattle.sy_tree.specs.declared.tree.Printed.{Printed, out-Printed}
-use Rattle.sy_tree.specs.declared.tree.Stmt.{Stmt, out-Stmt}
+use Rattle.sy_tree.specs.declared.tree.Printed.{out-Printed}
+use Rattle.sy_tree.specs.declared.tree.Stmt.{out-Stmt}
 use Rattle.sy_tree.specs.Declarations.{DeclaratorRule, OneDeclarator, InitializerRule, Initialized, DeclarationRule}
 use Rattle.sy_tree.specs.Expressions.{Node, an_expr, a_lambda, a_full, a_block, a_stmt, AnyExpr, InParentheses, ArgumentRule, OneArgument, BracketedArguments, ExprRule, LambdaRule}
 use Rattle.sy_tree.specs.Grammar.{NodeRule, Passes}
 use Rattle.sy_tree.specs.Layers.{ArgumentLayer, BlockLayer, DeclarationLayer, DeclaratorLayer, ExprLayer, FullExpressionLayer, InitializerLayer, LambdaLayer, PrintedLayer, StmtLayer}
 use Rattle.sy_tree.specs.Lists.{Rule, Maybe, Optional, Each, OneOrMore, Listed, MaybeListed}
 use Rattle.sy_tree.specs.Statements.{Substatement, AnyFull, BlockRule, FullRule, PrintedRule, OnePrinted, InitStatement, StmtRule}
-use Rattle.sy_tree.specs.Types.{Integral, OneWordIntegral, TypeSpecified, ConstSpecified, Dimensions, CommaDimensions, Elements, Object, VectorOf, Captured, LambdaParameterTyped, OneLambdaParameter, LambdaParameters, OneTemplateArgument, TemplateArguments}
+use Rattle.sy_tree.specs.Types.{Integral, TypeSpecified, ConstSpecified, Dimensions, CommaDimensions, Elements, Object, VectorOf, Captured, LambdaParameterTyped, OneLambdaParameter, LambdaParameters, OneTemplateArgument, TemplateArguments}
 use Rattle.sy_tree.specs.Words.{At, Sees, Spelled, SpelledAs, spellings, mark, keyword}
 
 abbrev pub Takes : {A : Type 0} → Rule A → Type 0

@@ -1,5 +1,5 @@
 -- A rule over other nodes: what is said of more of them says more.
-use Rattle.std.proofs.Common.{◌≡◌, ℕ, zero, suc, ◌≤◌, Bool, true, false, List, [], ◌∷◌, Option, Some, None, le_trans}
+use Rattle.std.proofs.Common.{ℕ, ◌≤◌, true, false, List, [], ◌∷◌, Some, None, le_trans}
 use Rattle.sy_lex.specs.declared.Token.{Token}
 use Rattle.sy_note.specs.declared.Spot.{Spot}
 use Rattle.sy_tree.specs.declared.parts.Brackets.{Brackets}
@@ -7,13 +7,13 @@ use Rattle.sy_tree.specs.declared.tree.Argument.{Argument, out-Argument}
 use Rattle.sy_tree.specs.declared.tree.Argument.TheOpen.{Argument-F, Declaration-F, Declarator-F, Expr-F, FullExpression-F, Initializer-F, Printed-F, Stmt-F}
 use Rattle.sy_tree.specs.declared.tree.Block.{out-Block}
 use Rattle.sy_tree.specs.declared.tree.Declaration.{out-Declaration}
-use Rattle.sy_tree.specs.declared.tree.Declarator.{Declarator, out-Declarator}
-use Rattle.sy_tree.specs.declared.tree.Expr.{Expr, out-Expr}
-use Rattle.sy_tree.specs.declared.tree.FullExpression.{FullExpression, out-FullExpression}
-use Rattle.sy_tree.specs.declared.tree.Initializer.{Initializer, out-Initializer}
+use Rattle.sy_tree.specs.declared.tree.Declarator.{out-Declarator}
+use Rattle.sy_tree.specs.declared.tree.Expr.{out-Expr}
+use Rattle.sy_tree.specs.declared.tree.FullExpression.{out-FullExpression}
+use Rattle.sy_tree.specs.declared.tree.Initializer.{out-Initializer}
 use Rattle.sy_tree.specs.declared.tree.Lambda.{out-Lambda}
-use Rattle.sy_tree.specs.declared.tree.Printed.{Printed, out-Printed}
-use Rattle.sy_tree.specs.declared.tree.Stmt.{Stmt, out-Stmt}
+use Rattle.sy_tree.specs.declared.tree.Printed.{out-Printed}
+use Rattle.sy_tree.specs.declared.tree.Stmt.{out-Stmt}
 use Rattle.sy_tree.specs.Declarations.{DeclaratorRule, OneDeclarator, InitializerRule, Initialized, DeclarationRule}
 use Rattle.sy_tree.specs.Expressions.{Node, an_expr, a_lambda, a_full, a_block, a_stmt, AnyExpr, InParentheses, ArgumentRule, OneArgument, BracketedArguments, ExprRule, LambdaRule}
 use Rattle.sy_tree.specs.Grammar.{NodeRule}

@@ -1,10 +1,10 @@
 -- The laws of the grammar, by induction on the height.
-use Rattle.std.proofs.Common.{◌≡◌, ℕ, zero, suc, ◌≤◌, Bool, true, List, length, drop, arith}
+use Rattle.std.proofs.Common.{◌≡◌, ℕ, zero, suc, ◌≤◌, true, List, arith}
 use Rattle.sy_lex.specs.declared.Token.{Token}
 use Rattle.sy_tree.specs.declared.tree.Expr.{Expr, out-Expr}
 use Rattle.sy_tree.specs.Beginnings.{opens, first}
 use Rattle.sy_tree.specs.Expressions.{Node, an_expr}
-use Rattle.sy_tree.specs.Grammar.{NodeRule, Derives, Passes}
+use Rattle.sy_tree.specs.Grammar.{Derives, Passes}
 use Rattle.sy_tree.proofs.Begins.{NodeRule-begins}
 use Rattle.sy_tree.proofs.Fronts.{NodeRule-takes}
 use Rattle.sy_tree.proofs.Maps.{NodeRule-map, ExprRule-looser}

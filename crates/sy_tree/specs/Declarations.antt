@@ -1,5 +1,5 @@
 -- Declarations and their initializers.
-use Rattle.std.specs.Prelude.{◌≡◌, List, [], ◌∷◌, Option, Some, None}
+use Rattle.std.specs.Prelude.{List, []}
 use Rattle.sy_lex.specs.declared.Token.{Token}
 use Rattle.sy_tree.specs.declared.tree.Argument.TheOpen.{Declaration-F, Declarator-F, Initializer-F}
 use Rattle.sy_tree.specs.declared.tree.Argument.{Argument}
@@ -11,7 +11,7 @@ use Rattle.sy_tree.specs.declared.parts.Qualified.{Qualified}
 use Rattle.sy_tree.specs.Expressions.{Node, a_lambda, AnyExpr, BracketedArguments}
 use Rattle.sy_tree.specs.Layers.{DeclarationLayer, DeclaratorLayer, InitializerLayer}
 use Rattle.sy_tree.specs.Lists.{Rule, Optional, Listed}
-use Rattle.sy_tree.specs.Types.{Integral, Object, TypeSpecified, ConstSpecified, VectorOf}
+use Rattle.sy_tree.specs.Types.{Object, TypeSpecified, ConstSpecified, VectorOf}
 use Rattle.sy_tree.specs.Words.{At, Sees, Identifier, Std, Sycl, mark, opening, closing}
 
 -- not "(" ")", which would declare a function

@@ -1,5 +1,5 @@
 -- Expressions, their arguments, and lambdas.
-use Rattle.std.specs.Prelude.{◌≡◌, ℕ, ◌+◌, ◌≤◌, Bool, true, false, List, [], ◌∷◌, Option, Some, None}
+use Rattle.std.specs.Prelude.{ℕ, ◌+◌, ◌≤◌, true, false, List}
 use Rattle.sy_lex.specs.declared.Row.TheVariants as row
 use Rattle.sy_lex.specs.declared.Token.{Token}
 use Rattle.sy_note.specs.declared.Spot.{Spot}

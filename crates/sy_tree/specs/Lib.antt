@@ -1,11 +1,13 @@
 pub mod Beginnings
 pub mod Declarations
+pub mod Examples
 pub mod Expressions
 pub mod Grammar
 pub mod Layers
 pub mod Lists
 pub mod Qualification
 pub mod Statements
+pub mod Things
 pub mod Types
 pub mod Units
 pub mod Words

@@ -1,9 +1,9 @@
 -- Statements and blocks.
-use Rattle.std.specs.Prelude.{◌≡◌, List, [], ◌∷◌, Option, Some, None}
+use Rattle.std.specs.Prelude.{List, Some, None}
 use Rattle.sy_lex.specs.declared.Row.TheVariants as row
 use Rattle.sy_lex.specs.declared.Token.{Token}
 use Rattle.sy_tree.specs.declared.tree.Argument.TheOpen.{FullExpression-F, Printed-F, Stmt-F}
-use Rattle.sy_tree.specs.declared.tree.Block.{Block, out-Block}
+use Rattle.sy_tree.specs.declared.tree.Block.{out-Block}
 use Rattle.sy_tree.specs.declared.tree.Declaration.{out-Declaration}
 use Rattle.sy_tree.specs.declared.tree.FullExpression.{FullExpression, out-FullExpression}
 use Rattle.sy_tree.specs.declared.tree.Printed.{Printed, out-Printed}
@@ -34,7 +34,7 @@ module _ (Sub : Rule Node) where
 
   -- "{" stmt* "}"
   abbrev pub BlockRule : BlockLayer → List Token → List Token → Type 0
-  BlockRule b from rest = (m k : List Token) × At (mark "{") b.open from m × Each Substatement b.statements m k × At (mark "}") b.close k rest
+  BlockRule b from rest = (m k : List Token) × At (mark "{") b.spot from m × Each Substatement b.statements m k × At (mark "}") b.close k rest
 
   abbrev pub FullRule : FullExpressionLayer → List Token → List Token → Type 0
   -- expr

@@ -5,6 +5,8 @@ mod boxes;
 pub mod laws;
 mod operators;
 mod parts;
+#[cfg(test)]
+mod tests;
 mod things;
 mod tree;
 mod typed;
@@ -23,6 +25,6 @@ pub use tree::{
 };
 pub use typed::{
     Program, Typed, TypedArgument, TypedBlock, TypedCapture, TypedConstant, TypedDeclaration,
-    TypedDeclarator, TypedFull, TypedFunction, TypedInitializer, TypedLambda, TypedNode, TypedPrinted,
-    TypedStmt, Variable,
+    TypedDeclarator, TypedFull, TypedFunction, TypedInitializer, TypedLambda, TypedNode,
+    TypedPrinted, TypedStmt, Variable,
 };

@@ -1,5 +1,9 @@
 //! The types that an expression or a name can have.
 
+ghost use Rattle.std.specs.Prelude.{◌≡◌, ◌≢◌, IfSome, IfNone};
+ghost use Rattle.sy_tree.specs.declared.things.Dimensions.{Dimensions};
+ghost use Rattle.sy_tree.specs.Things.{dimension_count};
+
 use crate::parts::{AccessTag, FunctionObject};
 use sy_access::Mode;
 use sy_num::Kind;
@@ -9,6 +13,31 @@ pub enum Dimensions {
     One,
     Two,
     Three,
+}
+
+impl Dimensions {
+    /// So many dimensions, if there may be so many.
+    pub fn of(count: u64) -> Option<Dimensions>
+        ensures found { IfSome result (λ d. dimension_count d ≡ count) }
+        ensures none { IfNone result ((d : Dimensions) → dimension_count d ≢ count) }
+    {
+        match count {
+            1 => Some(Dimensions::One),
+            2 => Some(Dimensions::Two),
+            3 => Some(Dimensions::Three),
+            _ => None,
+        }
+    }
+
+    pub fn count(self) -> u32
+        ensures { result ≡ dimension_count self }
+    {
+        match self {
+            Dimensions::One => 1,
+            Dimensions::Two => 2,
+            Dimensions::Three => 3,
+        }
+    }
 }
 
 /// A type: an integer's, or one of the library, with the kind of its elements, its dimensions and its mode.

@@ -63,10 +63,11 @@ pub struct Lambda {
     pub body: Block,
 }
 
+/// A block, from its `{` to its `}`.
 #[cycle(tree)]
 #[derive(Drop)]
 pub struct Block {
-    pub open: Spot,
+    pub spot: Spot,
     pub statements: Items<Stmt>,
     pub close: Spot,
 }

@@ -148,13 +148,7 @@ pub enum TypedStmt {
     If(Spot, Typed, Boxed<TypedStmt>, Option<Boxed<TypedStmt>>),
     While(Spot, Typed, Boxed<TypedStmt>),
     Do(Spot, Boxed<TypedStmt>, Typed, Spot),
-    For(
-        Spot,
-        Boxed<TypedStmt>,
-        Option<Typed>,
-        Option<TypedFull>,
-        Boxed<TypedStmt>,
-    ),
+    For(Spot, Boxed<TypedStmt>, Option<Typed>, Option<TypedFull>, Boxed<TypedStmt>),
     /// The element, whether it is a reference, and the vector.
     RangeFor(Spot, Variable, bool, Variable, Boxed<TypedStmt>),
     /// The variable is the caught exception.
