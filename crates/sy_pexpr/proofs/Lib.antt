@@ -1,1 +1,3 @@
+pub mod PartsSound
+pub mod Steps
 pub mod Turns

@@ -18,7 +18,7 @@ use Rattle.sy_tree.specs.declared.tree.Argument.{Argument}
 use Rattle.sy_tree.specs.declared.tree.Argument.TheVariants as argument
 use Rattle.sy_tree.specs.declared.tree.Block.{Block}
 use Rattle.sy_tree.specs.declared.tree.Expr.{Expr}
-use Rattle.sy_tree.specs.declared.tree.Expr.TheVariants as e
+use Rattle.sy_tree.specs.declared.tree.Expr.TheVariants as tree
 use Rattle.sy_tree.specs.declared.tree.Lambda.{Lambda}
 use Rattle.sy_tree.specs.declared.tree.Stmt.{Stmt}
 use Rattle.sy_tree.specs.Words.{level}
@@ -38,6 +38,10 @@ binds_by text = binds_as (operator_of text) text
 
 unfoldable pub binds : List Token → ℕ
 binds ts = binds_by (mark_text ts)
+
+-- whether a cast comes next, and not an expression in parentheses
+unfoldable pub sees_cast : List Token → Bool
+sees_cast ts = sees row.Mark (codes "(") ts && sees_type (next ts) && not (sees row.Mark (codes "(") (next (next ts)))
 
 -- A chain has a level for each of its operators, and so takes no more turns.
 abbrev pub turns : ℕ
@@ -108,7 +112,7 @@ module _ (expr : ℕ → Reader (Tall Expr)) (stmt : Reader (Tall Stmt)) where
     s ← expect row.Mark (codes "(")
     x ← expr 1
     e ← expect row.Mark (codes ")")
-    grown (e.Parenthesized s x.0 e) x.1
+    grown (tree.Parenthesized s x.0 e) x.1
 
   -- IDENT | IDENT "(" list(expr)? ")"
   unfoldable pub called : Lexeme → Reader (Tall Expr)
@@ -116,12 +120,12 @@ module _ (expr : ℕ → Reader (Tall Expr)) (stmt : Reader (Tall Stmt)) where
     expect row.Mark (codes "(")
     xs ← maybe_listed (expr 1) (codes ")")
     e ← expect row.Mark (codes ")")
-    grown (e.Call f xs.0 e) xs.1
+    grown (tree.Call f xs.0 e) xs.1
 
   unfoldable pub named_primary : Reader (Tall Expr)
   named_primary = do
     x ← lexed row.Ident
-    λ ts. if sees row.Mark (codes "(") ts then called x ts else grown (e.Name x) 0 ts
+    λ ts. if sees row.Mark (codes "(") ts then called x ts else grown (tree.Name x) 0 ts
 
   -- "static_cast" "<" ktype ">" "(" expr ")"
   unfoldable pub static_cast : Reader (Tall Expr)
@@ -131,18 +135,18 @@ module _ (expr : ℕ → Reader (Tall Expr)) (stmt : Reader (Tall Stmt)) where
     t ← integral
     expect row.Mark (codes ">")
     p ← parenthesis
-    grown (e.StaticCast s t p.0.0 p.1) p.0.1
+    grown (tree.StaticCast s t p.0.0 p.1) p.0.1
 
   -- word "(" expr ")"
   unfoldable pub functional_cast : Reader (Tall Expr)
   functional_cast = do
     t ← one_word
     p ← parenthesis
-    grown (e.FunctionalCast t p.0.0 p.1) p.0.1
+    grown (tree.FunctionalCast t p.0.0 p.1) p.0.1
 
   unfoldable pub reserved_primary : Reader (Tall Expr)
-  reserved_primary = λ ts. if sees row.Reserved (codes "true") ts then (do s ← expect row.Reserved (codes "true"); grown (e.Boolean s true) 0) ts
-      else (if sees row.Reserved (codes "false") ts then (do s ← expect row.Reserved (codes "false"); grown (e.Boolean s false) 0) ts
+  reserved_primary = λ ts. if sees row.Reserved (codes "true") ts then (do s ← expect row.Reserved (codes "true"); grown (tree.Boolean s true) 0) ts
+      else (if sees row.Reserved (codes "false") ts then (do s ← expect row.Reserved (codes "false"); grown (tree.Boolean s false) 0) ts
       else (if sees row.Reserved (codes "static_cast") ts then static_cast ts else functional_cast ts))
 
   -- otype with its arguments, after its name
@@ -152,7 +156,7 @@ module _ (expr : ℕ → Reader (Tall Expr)) (stmt : Reader (Tall Stmt)) where
     b ← opened
     xs ← arguments (closing_text b.0)
     e ← closed b.0
-    grown (e.Construct t b.0 b.1 xs.0 e) xs.1
+    grown (tree.Construct t b.0 b.1 xs.0 e) xs.1
 
   unfoldable pub in_order : Qualified → Reader (Tall Expr)
   in_order q = do
@@ -160,7 +164,7 @@ module _ (expr : ℕ → Reader (Tall Expr)) (stmt : Reader (Tall Stmt)) where
     expect row.Mark (codes "::")
     expect row.Ident (codes "in_order")
     b ← empty_brackets
-    grown (e.InOrder q b.0 b.1) 0
+    grown (tree.InOrder q b.0 b.1) 0
 
   unfoldable pub initialize_to_identity : Qualified → Reader (Tall Expr)
   initialize_to_identity q = do
@@ -168,7 +172,7 @@ module _ (expr : ℕ → Reader (Tall Expr)) (stmt : Reader (Tall Stmt)) where
     expect row.Mark (codes "::")
     expect row.Ident (codes "initialize_to_identity")
     b ← empty_brackets
-    grown (e.InitializeToIdentity q b.0 b.1) 0
+    grown (tree.InitializeToIdentity q b.0 b.1) 0
 
   unfoldable pub property : Qualified → Reader (Tall Expr)
   property q = do
@@ -178,13 +182,13 @@ module _ (expr : ℕ → Reader (Tall Expr)) (stmt : Reader (Tall Stmt)) where
   unfoldable pub group_barrier : Qualified → Reader (Tall Expr)
   group_barrier q = do
     p ← parenthesis
-    grown (e.GroupBarrier q p.0.0 p.1) p.0.1
+    grown (tree.GroupBarrier q p.0.0 p.1) p.0.1
 
   unfoldable pub error_code : Qualified → Reader (Tall Expr)
   error_code q = do
     expect row.Mark (codes "::")
     x ← lexed row.Ident
-    grown (e.ErrorCode q x) 0
+    grown (tree.ErrorCode q x) 0
 
   -- ktype?, up to ">"
   unfoldable pub maybe_integral : Reader (Option IntegerType)
@@ -196,14 +200,14 @@ module _ (expr : ℕ → Reader (Tall Expr)) (stmt : Reader (Tall Stmt)) where
     t ← maybe_integral
     expect row.Mark (codes ">")
     b ← empty_brackets
-    grown (e.FunctionObject q f t b.0 b.1) 0
+    grown (tree.FunctionObject q f t b.0 b.1) 0
 
   unfoldable pub library_call : Qualified → LibraryFunction → Reader (Tall Expr)
   library_call q f = do
     expect row.Mark (codes "(")
     xs ← arguments (codes ")")
     e ← expect row.Mark (codes ")")
-    grown (e.LibraryCall q f xs.0 e) xs.1
+    grown (tree.LibraryCall q f xs.0 e) xs.1
 
   -- a name of the library that is no access tag, no function object and no function with a value
   unfoldable pub other_name : Qualified → List ℕ → Reader (Tall Expr)
@@ -220,7 +224,7 @@ module _ (expr : ℕ → Reader (Tall Expr)) (stmt : Reader (Tall Stmt)) where
   object_or q text None = function_or q text (function_of text)
 
   abbrev pub tag_or : Qualified → List ℕ → Option AccessTag → Reader (Tall Expr)
-  tag_or q text (Some t) = grown (e.AccessTag q t) 0
+  tag_or q text (Some t) = grown (tree.AccessTag q t) 0
   tag_or q text None = object_or q text (object_of text)
 
   unfoldable pub library_by : Qualified → List ℕ → Reader (Tall Expr)
@@ -232,8 +236,8 @@ module _ (expr : ℕ → Reader (Tall Expr)) (stmt : Reader (Tall Stmt)) where
     library_by (qualified p) p.1.text
 
   unfoldable pub primary : Reader (Tall Expr)
-  primary = λ ts. if sees_row row.Int ts then (do x ← lexed row.Int; grown (e.Integer x) 0) ts
-      else (if sees_row row.Char ts then (do x ← lexed row.Char; grown (e.Character x) 0) ts
+  primary = λ ts. if sees_row row.Int ts then (do x ← lexed row.Int; grown (tree.Integer x) 0) ts
+      else (if sees_row row.Char ts then (do x ← lexed row.Char; grown (tree.Character x) 0) ts
       else (if sees_row row.Reserved ts then reserved_primary ts
       else (if sees row.Mark (codes "(") ts then parenthesized ts
       else (if sees_namespace (codes "sycl") ts then library ts else named_primary ts))))
@@ -245,7 +249,7 @@ module _ (expr : ℕ → Reader (Tall Expr)) (stmt : Reader (Tall Stmt)) where
     s ← expect row.Mark (codes "[")
     x ← expr 1
     e ← expect row.Mark (codes "]")
-    grown (e.Subscript a.0 s x.0 e) (max a.1 x.1)
+    grown (tree.Subscript a.0 s x.0 e) (max a.1 x.1)
 
   unfoldable pub member : Tall Expr → Reader (Tall Expr)
   member a = do
@@ -255,13 +259,13 @@ module _ (expr : ℕ → Reader (Tall Expr)) (stmt : Reader (Tall Stmt)) where
     expect row.Mark (codes "(")
     xs ← arguments (codes ")")
     e ← expect row.Mark (codes ")")
-    grown (e.MemberCall a.0 x t xs.0 e) (max a.1 xs.1)
+    grown (tree.MemberCall a.0 x t xs.0 e) (max a.1 xs.1)
 
   abbrev pub stepped_as : Tall Expr → Option Step → Reader (Tall Expr)
   stepped_as a None = refuse
   stepped_as a (Some o) = do
     s ← advance
-    grown (e.Postfix a.0 s o) a.1
+    grown (tree.Postfix a.0 s o) a.1
 
   unfoldable pub stepped : Tall Expr → Reader (Tall Expr)
   stepped a = λ ts. stepped_as a (step_of (mark_text ts)) ts
@@ -279,29 +283,25 @@ module _ (expr : ℕ → Reader (Tall Expr)) (stmt : Reader (Tall Stmt)) where
   unfoldable pub whole_postfix : Reader (Tall Expr)
   whole_postfix = primary >>= postfixes turns
 
-  -- whether a cast comes next, and not an expression in parentheses
-  unfoldable pub sees_cast : List Token → Bool
-  sees_cast ts = sees row.Mark (codes "(") ts && sees_type (next ts) && not (sees row.Mark (codes "(") (next (next ts)))
-
   unfoldable pub cast : Reader (Tall Expr)
   cast = do
     s ← expect row.Mark (codes "(")
     t ← integral
     expect row.Mark (codes ")")
     a ← expr 12
-    grown (e.Cast s t a.0) a.1
+    grown (tree.Cast s t a.0) a.1
 
   unfoldable pub prefix_step : Step → Reader (Tall Expr)
   prefix_step o = do
     s ← advance
     a ← expr 12
-    grown (e.Prefix s o a.0) a.1
+    grown (tree.Prefix s o a.0) a.1
 
   unfoldable pub unary : UnOp → Reader (Tall Expr)
   unary o = do
     s ← advance
     a ← expr 12
-    grown (e.Unary s o a.0) a.1
+    grown (tree.Unary s o a.0) a.1
 
   unfoldable pub cast_or_postfix : Reader (Tall Expr)
   cast_or_postfix = λ ts. if sees_cast ts then cast ts else whole_postfix ts
@@ -323,7 +323,7 @@ module _ (expr : ℕ → Reader (Tall Expr)) (stmt : Reader (Tall Stmt)) where
   binary o a = do
     s ← advance
     b ← expr (level o + 1)
-    grown (e.Binary a.0 s o b.0) (max a.1 b.1)
+    grown (tree.Binary a.0 s o b.0) (max a.1 b.1)
 
   unfoldable pub conditional : Tall Expr → Reader (Tall Expr)
   conditional a = do
@@ -331,7 +331,7 @@ module _ (expr : ℕ → Reader (Tall Expr)) (stmt : Reader (Tall Stmt)) where
     b ← expr 1
     expect row.Mark (codes ":")
     c ← expr 1
-    grown (e.Conditional a.0 s b.0 c.0) (max a.1 (max b.1 c.1))
+    grown (tree.Conditional a.0 s b.0 c.0) (max a.1 (max b.1 c.1))
 
   abbrev pub binary_as : Tall Expr → Option Operator → Reader (Tall Expr)
   binary_as a None = refuse

@@ -1,3 +1,4 @@
+pub mod Answers
 pub mod Exprs
 pub mod Input
 pub mod Parts

@@ -72,9 +72,11 @@ signed_kind = do
 unfoldable pub unsigned_kind : Reader Kind
 unsigned_kind = do
   char ← eat row.Reserved (codes "char")
-  short ← eat row.Reserved (codes "short")
-  long ← eat row.Reserved (codes "long")
-  if char then pure kind.UChar else (if short then eat_int kind.UShort else (if long then long_kind kind.ULong kind.ULLong else eat_int kind.UInt))
+  if char then pure kind.UChar else (do
+    long ← eat row.Reserved (codes "long")
+    if long then long_kind kind.ULong kind.ULLong else (do
+      short ← eat row.Reserved (codes "short")
+      eat_int (if short then kind.UShort else kind.UInt)))
 
 abbrev pub word_kind : Option Kind → Reader Kind
 word_kind None = refuse

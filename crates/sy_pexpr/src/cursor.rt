@@ -2,6 +2,7 @@
 
 ghost use Rattle.std.specs.Prelude.{◌≡◌, length};
 ghost use Rattle.sy_tree.specs.Qualification as qualification;
+ghost use Rattle.sy_tree.specs.Units as units;
 ghost use Rattle.sy_pexpr.specs.Input as spec;
 ghost use Rattle.sy_pexpr.specs.Reads.{Reads};
 
@@ -58,7 +59,34 @@ fn is_word(word: &Word, row: Row, text: &[u8]) -> bool
     same_row(word.row, row) && word.text.items() == text
 }
 
+macro_rules! is_one_of {
+    ($text:expr; $($word:literal),+) => {
+        $($text == $word.as_slice())||+
+    };
+}
+
+fn ends_by(word: &Word) -> bool
+    ensures { result ≡ units.ends_by word.now }
+{
+    let text = word.text.items();
+    same_row(word.row, Row::Mark)
+        && is_one_of!(
+            text;
+            b")", b"]", b"}", b",", b";", b":", b"=", b"+=", b"-=", b"*=", b"/=", b"%=", b"&=", b"|=", b"^=", b"<<=", b">>="
+        )
+}
+
 impl<'a> Tokens<'a> {
+    /// Whether the next token ends an expression.
+    pub fn ends(&self) -> bool
+        ensures { result ≡ units.ends self.now.rest.now }
+    {
+        match self.rest {
+            [] => false,
+            [first, ..] => ends_by(&first.word),
+        }
+    }
+
     /// How many tokens are left.
     pub fn left(&self) -> usize
         ensures { result ≡ length self.now.rest.now }
