@@ -185,6 +185,21 @@ integral_is from rest t h =
     finish (λ z vs. Integral z from vs) (record { spot = x.0.0.spot; kind = k.0.0 }) t k.0.1 rest k.2
     (kind_by_is x.0.0.spot from x.0.0.text k.0.0 x.0.1 k.0.1 (lexed_is _ _ _ _ x.1) k.1)
 
+pub one_word_integral_is : (from rest : List Token) (t : IntegerType) → r.one_word from ≡ Some (t, rest) → OneWordIntegral t from rest
+unfolding r.one_word
+one_word_integral_is from rest t h =
+    let x = bind_some (lexed row.Reserved from) _ _ h in
+    let k = bind_some (r.word_kind (one_word_of x.0.0.text) x.0.1) _ _ x.2 in
+    let there = lexed_is row.Reserved from x.0.1 x.0.0 x.1 in
+    let found = word_kind_is x.0.0.spot from (one_word_of x.0.0.text) k.0.0 x.0.1 k.0.1 (λ j is. one_word_is x.0.0.text x.0.0.spot from x.0.1 there j is) k.1 in
+    finish (λ z vs. OneWordIntegral z from vs) (record { spot = x.0.0.spot; kind = k.0.0 }) t k.0.1 rest k.2
+    (found, (record { word = word row.Reserved x.0.0.text; from = there.0; to = there.1; spot = x.0.0.spot },
+      there.2 ∙ ap (λ us. record { word = word row.Reserved x.0.0.text; from = there.0; to = there.1; spot = x.0.0.spot } ∷ us) (untaken (one_word_of x.0.0.text) k.0.0 x.0.1 k.0.1 k.1)))
+  where
+    untaken : (o : Option Kind) (k : Kind) (m rest : List Token) → r.word_kind o m ≡ Some (k, rest) → m ≡ rest
+    untaken None k m rest h = absurd cc
+    untaken (Some j) k m rest h = ap (λ p. p.1) (one {Y = Kind × List Token} (j, m) (k, rest) h)
+
 pub type_specifier_is : (from rest : List Token) (t : TypeSpecifier) → r.type_specifier from ≡ Some (t, rest) → TypeSpecified t from rest
 unfolding r.type_specifier keyword
 type_specifier_is from rest t h =
@@ -255,7 +270,7 @@ maybe_elements_are from rest x h =
     (choice (sees row.Mark (codes "<") from) _ _ (x, rest) h)
 
 -- any name of the library, of which the text is known
-abbrev Library : List ℕ → Qualified → List Token → List Token → Type 0
+abbrev pub Library : List ℕ → Qualified → List Token → List Token → Type 0
 Library text q from rest = (m k : List Token) × At (word row.Ident (codes "sycl")) q.namespace from m × Sees (word row.Mark (codes "::")) m k × At (word row.Ident text) q.name k rest
 
 pub library_is : (from rest : List Token) (p : Spot × Lexeme) → named (codes "sycl") from ≡ Some (p, rest) → Library p.1.text (qualified p) from rest
