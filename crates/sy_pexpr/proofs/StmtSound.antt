@@ -33,10 +33,10 @@ use Rattle.sy_tree.specs.Expressions.{Node, an_expr, a_lambda, a_full, a_block, 
 use Rattle.sy_tree.specs.Grammar.{NodeRule, Derives}
 use Rattle.sy_tree.specs.Layers.{StmtLayer}
 use Rattle.sy_tree.specs.Lists.{Rule, Maybe, Optional, Each, OneOrMore, Listed, MaybeListed}
-use Rattle.sy_tree.specs.Statements.{Substatement, AnyFull, BlockRule, FullRule, PrintedRule, OnePrinted, StmtRule}
+use Rattle.sy_tree.specs.Statements.{IsInitStatement, InitStatement, Substatement, AnyFull, BlockRule, FullRule, PrintedRule, OnePrinted, StmtRule}
 use Rattle.sy_tree.specs.Types.{Captured, LambdaParameters, TypeSpecified, VectorOf}
 use Rattle.sy_tree.specs.Words.{At, Sees, Lexed, Identifier, Std, Sycl, mark, keyword, identifier, assignment_spelling, opening, closing}
-use Rattle.sy_tree.proofs.Maps.{Implies, OneDeclarator-map, Listed-map, MaybeListed-map}
+use Rattle.sy_tree.proofs.Maps.{Implies, Optional-map, OneDeclarator-map, Listed-map, MaybeListed-map}
 use Rattle.sy_tree.proofs.Theorems.{Derives-taller}
 use Rattle.sy_pexpr.specs.Exprs as e
 use Rattle.sy_pexpr.specs.Stmts as r
@@ -137,6 +137,16 @@ stmt_built : (h : ℕ) (x : Stmt) (y : StmtLayer) (from ts rest : List Token) (z
 stmt_built h x y from ts rest z o d g =
     let rule : NodeRule (Derives h) (a_stmt x) from ts = rw o d in
     node_built a_stmt h x from ts rest z rule (grew x h ts z rest g)
+
+-- the same of what a `for` may begin with
+abbrev SimpleStands : Tall Stmt → List Token → List Token → Type 0
+SimpleStands z from rest = IsInitStatement (out-Stmt z.0) × StmtStands z from rest
+
+simple_built : (h : ℕ) (x : Stmt) (y : StmtLayer) (from ts rest : List Token) (z : Tall Stmt) → out-Stmt x ≡ y → IsInitStatement y → StmtRule (Derives h) y from ts →
+    grown x h ts ≡ Some (z, rest) → SimpleStands z from rest
+simple_built h x y from ts rest z o i d g =
+    let init : IsInitStatement (out-Stmt x) = rw o i in
+    (subst (λ u. IsInitStatement (out-Stmt u.0)) (sym (grew x h ts z rest g).1) init, stmt_built h x y from ts rest z o d g)
 
 -- a name of the library of C++, of which the text is known
 abbrev Standard : List ℕ → Qualified → List Token → List Token → Type 0
@@ -304,10 +314,10 @@ module _ (E : ℕ → Reader (Tall Expr)) (S : Reader (Tall Stmt))
       (which (bytes_eq p.0.0.1.text (codes "vector")) _ _ p.0.1 (d, rest) p.2)
 
   declared_is : (read : Reader (Tall Declaration)) (from rest : List Token) (z : Tall Stmt) → ((us : List Token) (d : Tall Declaration) → read from ≡ Some (d, us) → Declares d from us) →
-      r.declared E S read from ≡ Some (z, rest) → StmtStands z from rest
+      r.declared E S read from ≡ Some (z, rest) → SimpleStands z from rest
   declared_is read from rest z f h =
       let d = bind_some (read from) _ _ h in
-      stmt_built d.0.0.1 _ _ from d.0.1 rest z (t.outs-Declaration d.0.0.0) (f d.0.1 d.0.0 d.1) d.2
+      simple_built d.0.0.1 _ _ from d.0.1 rest z (t.outs-Declaration d.0.0.0) tt (f d.0.1 d.0.0 d.1) d.2
 
   -- ---- expressions that are evaluated by themselves
 
@@ -335,15 +345,298 @@ module _ (E : ℕ → Reader (Tall Expr)) (S : Reader (Tall Stmt))
       let x = bind_some (r.full_parts E S from) _ _ h in
       (node_built a_full x.0.0.1 x.0.0.0 from x.0.1 rest z (full_parts_are from x.0.1 x.0.0 x.1) (grew _ _ _ z rest x.2)).0
 
-  expression_is : (from rest : List Token) (z : Tall Stmt) → r.expression E S from ≡ Some (z, rest) → StmtStands z from rest
+  expression_is : (from rest : List Token) (z : Tall Stmt) → r.expression E S from ≡ Some (z, rest) → SimpleStands z from rest
   unfolding r.expression mark
   expression_is from rest z h =
       let x = bind_some (r.full_parts E S from) _ _ h in
       let end = bind_some (expect row.Mark (codes ";") x.0.1) _ _ x.2 in
-      stmt_built x.0.0.1 _ _ from end.0.1 rest z (t.outs-Expression x.0.0.0 end.0.0) (x.0.1, full_parts_are from x.0.1 x.0.0 x.1, expected _ _ _ _ _ end.1) end.2
+      simple_built x.0.0.1 _ _ from end.0.1 rest z (t.outs-Expression x.0.0.0 end.0.0) tt (x.0.1, full_parts_are from x.0.1 x.0.0 x.1, expected _ _ _ _ _ end.1) end.2
 
-  null_is : (from rest : List Token) (z : Tall Stmt) → r.null E S from ≡ Some (z, rest) → StmtStands z from rest
+  null_is : (from rest : List Token) (z : Tall Stmt) → r.null E S from ≡ Some (z, rest) → SimpleStands z from rest
   unfolding r.null mark
   null_is from rest z h =
       let s = bind_some (expect row.Mark (codes ";") from) _ _ h in
-      stmt_built 0 _ _ from s.0.1 rest z (t.outs-Null s.0.0) (expected _ _ _ _ _ s.1) s.2
+      simple_built 0 _ _ from s.0.1 rest z (t.outs-Null s.0.0) tt (expected _ _ _ _ _ s.1) s.2
+
+  simple_is : (from rest : List Token) (z : Tall Stmt) → r.simple E S from ≡ Some (z, rest) → SimpleStands z from rest
+  unfolding r.simple r.library_statement
+  simple_is from rest z h =
+      ⊎_elim (λ p. null_is from rest z p.1)
+      (λ p. ⊎_elim (λ p. declared_is (r.integers E S) from rest z (λ us d k. integers_are from us d k) p.1)
+        (λ p. ⊎_elim (λ p. declared_is (r.standard_declaration E S) from rest z (λ us d k. standard_declaration_is from us d k) p.1)
+          (λ p. ⊎_elim
+            (λ p. ⊎_elim (λ p. declared_is (r.object_declaration E S) from rest z (λ us d k. object_declaration_is from us d k) p.1) (λ p. expression_is from rest z p.1)
+              (choice (declares_object from) _ _ (z, rest) p.1))
+            (λ p. expression_is from rest z p.1)
+            (choice (sees_namespace (codes "sycl") from) _ _ (z, rest) p.1))
+          (choice (sees_namespace (codes "std") from) _ _ (z, rest) p.1))
+        (choice (r.declares_integers from) _ _ (z, rest) p.1))
+      (choice (sees row.Mark (codes ";") from) _ _ (z, rest) h)
+
+  -- ---- statements
+
+  compound_is : (from rest : List Token) (z : Tall Stmt) → r.compound E S from ≡ Some (z, rest) → StmtStands z from rest
+  unfolding r.compound
+  compound_is from rest z h =
+      let b = bind_some (e.one_block E S from) _ _ h in
+      let d = one_block_is E S ws from b.0.1 b.0.0 b.1 in
+      finish {A = Tall Stmt} (λ u vs. StmtStands u from vs) (t.Compound b.0.0.0, b.0.0.1) z b.0.1 rest b.2
+      (block_stmt b.0.0.1 b.0.0.0 from b.0.1 d.0, d.1)
+    where
+      block_stmt : (h : ℕ) (b : Block) (us ts : List Token) → Derives h (a_block b) us ts → Derives h (a_stmt (t.Compound b)) us ts
+      unfolding Derives
+      block_stmt zero b us ts d = absurd d
+      block_stmt (suc h) b us ts d = rw (t.outs-Compound b) d
+
+  one_printed_is : (from rest : List Token) (x : Tall Printed) → r.one_printed E S from ≡ Some (x, rest) → OnePrinted (Derives x.1) x.0 from rest
+  unfolding r.one_printed mark identifier
+  one_printed_is from rest x h =
+      let s = bind_some (expect row.Mark (codes "<<") from) _ _ h in
+      ⊎_elim
+      (λ p. let n = bind_some (lexed row.Str s.0.1) _ _ p.1 in
+        finish {A = Tall Printed} (λ z vs. OnePrinted (Derives z.1) z.0 from vs) (item.Text s.0.0 n.0.0, 0) x n.0.1 rest n.2
+        (rw (item.outs-Text s.0.0 n.0.0) (s.0.1, expected _ _ _ _ _ s.1, lexed_is _ _ _ _ n.1)))
+      (λ p. ⊎_elim
+        (λ p. let q = bind_some (within (codes "std") (codes "endl") s.0.1) _ _ p.1 in
+          finish {A = Tall Printed} (λ z vs. OnePrinted (Derives z.1) z.0 from vs) (item.EndLine s.0.0 q.0.0, 0) x q.0.1 rest q.2
+          (rw (item.outs-EndLine s.0.0 q.0.0) (s.0.1, expected _ _ _ _ _ s.1, within_is _ _ _ _ _ q.1)))
+        (λ p. let v = bind_some (E 10 s.0.1) _ _ p.1 in
+          finish {A = Tall Printed} (λ z vs. OnePrinted (Derives z.1) z.0 from vs) (item.Operand s.0.0 v.0.0.0, v.0.0.1) x v.0.1 rest v.2
+          (rw (item.outs-Operand s.0.0 v.0.0.0) (s.0.1, expected _ _ _ _ _ s.1, (we 10 s.0.1 v.0.1 v.0.0 (omega arith) (omega arith) v.1).0.0)))
+        (choice (sees_namespace (codes "std") s.0.1) _ _ (x, rest) p.1))
+      (choice (sees_row row.Str s.0.1) _ _ (x, rest) s.2)
+
+  abbrev PrintedStand : List Printed → ℕ → List Token → Tall (List Printed) → List Token → Type 0
+  PrintedStand xs h from all rest = (x : Printed) × (more : List Printed) × (h ≤ all.1) × (all.0 ≡ xs ++ (x ∷ more)) × Each (OnePrinted (Derives all.1)) (x ∷ more) from rest
+
+  printed_stand : (n : ℕ) (xs : List Printed) (h : ℕ) (from rest : List Token) (all : Tall (List Printed)) → r.printed E S n xs h from ≡ Some (all, rest) → PrintedStand xs h from all rest
+  unfolding r.printed
+  printed_stand zero xs h from rest all d = absurd cc
+  printed_stand (suc n) xs h from rest all d =
+      let x = bind_some (r.one_printed E S from) _ _ d in
+      let first = one_printed_is from x.0.1 x.0.0 x.1 in
+      ⊎_elim
+      (λ p. let others = printed_stand n (xs ++ x.0.0.0 ∷ []) (max h x.0.0.1) x.0.1 rest all p.1 in
+        (x.0.0.0, others.0 ∷ others.1, omega (arith, others.2), others.3 ∙ append_assoc xs (x.0.0.0 ∷ []) (others.0 ∷ others.1),
+          (x.0.1, printed_taller x.0.0.1 all.1 (omega (arith, others.2)) x.0.0.0 from x.0.1 first, others.4)))
+      (λ p. finish {A = Tall (List Printed)} (λ z vs. PrintedStand xs h from z vs) (xs ++ x.0.0.0 ∷ [], max h x.0.0.1) all x.0.1 rest p.1
+        (x.0.0.0, [], omega arith, refl, (x.0.1, printed_taller x.0.0.1 (max h x.0.0.1) (omega arith) x.0.0.0 from x.0.1 first, refl)))
+      (choice (sees row.Mark (codes "<<") x.0.1) _ _ (all, rest) x.2)
+
+  print_is : (from rest : List Token) (z : Tall Stmt) → r.print E S from ≡ Some (z, rest) → StmtStands z from rest
+  unfolding r.print mark identifier
+  print_is from rest z h =
+      let q = bind_some (within (codes "std") (codes "cout") from) _ _ h in
+      let xs = bind_some (r.printed E S (length q.0.1) [] 0 q.0.1) _ _ q.2 in
+      let end = bind_some (expect row.Mark (codes ";") xs.0.1) _ _ xs.2 in
+      let all = printed_stand (length q.0.1) [] 0 q.0.1 xs.0.1 xs.0.0 xs.1 in
+      let each = subst (λ ys. OneOrMore (OnePrinted (Derives xs.0.0.1)) ys q.0.1 xs.0.1) (sym all.3) all.4 in
+      stmt_built xs.0.0.1 _ _ from end.0.1 rest z (t.outs-Print q.0.0 xs.0.0.0 end.0.0) (q.0.1, xs.0.1, within_is _ _ _ _ _ q.1, each, expected _ _ _ _ _ end.1) end.2
+
+  break_is : (from rest : List Token) (z : Tall Stmt) → r.break_loop E S from ≡ Some (z, rest) → StmtStands z from rest
+  unfolding r.break_loop mark keyword
+  break_is from rest z h =
+      let s = bind_some (expect row.Reserved (codes "break") from) _ _ h in
+      let end = bind_some (expect row.Mark (codes ";") s.0.1) _ _ s.2 in
+      stmt_built 0 _ _ from end.0.1 rest z (t.outs-Break s.0.0 end.0.0) (s.0.1, expected _ _ _ _ _ s.1, expected _ _ _ _ _ end.1) end.2
+
+  continue_is : (from rest : List Token) (z : Tall Stmt) → r.continue_loop E S from ≡ Some (z, rest) → StmtStands z from rest
+  unfolding r.continue_loop mark keyword
+  continue_is from rest z h =
+      let s = bind_some (expect row.Reserved (codes "continue") from) _ _ h in
+      let end = bind_some (expect row.Mark (codes ";") s.0.1) _ _ s.2 in
+      stmt_built 0 _ _ from end.0.1 rest z (t.outs-Continue s.0.0 end.0.0) (s.0.1, expected _ _ _ _ _ s.1, expected _ _ _ _ _ end.1) end.2
+
+  maybe_expr_is : (from rest : List Token) (x : Tall (Option Expr)) → r.maybe_expr E S from ≡ Some (x, rest) → Optional (AnyExpr (Derives x.1)) x.0 from rest
+  unfolding r.maybe_expr
+  maybe_expr_is from rest x h =
+      ⊎_elim (λ p. finish {A = Tall (Option Expr)} (λ z vs. Optional (AnyExpr (Derives z.1)) z.0 from vs) (None, 0) x from rest p.1 refl)
+      (λ p. let v = bind_some (E 1 from) _ _ p.1 in
+        finish {A = Tall (Option Expr)} (λ z vs. Optional (AnyExpr (Derives z.1)) z.0 from vs) (Some v.0.0.0, v.0.0.1) x v.0.1 rest v.2 (value from v.0.1 v.0.0 v.1))
+      (choice (sees row.Mark (codes ";") from) _ _ (x, rest) h)
+
+  maybe_full_is : (from rest : List Token) (x : Tall (Option FullExpression)) → r.maybe_full E S from ≡ Some (x, rest) → Optional (AnyFull (Derives x.1)) x.0 from rest
+  unfolding r.maybe_full
+  maybe_full_is from rest x h =
+      ⊎_elim (λ p. finish {A = Tall (Option FullExpression)} (λ z vs. Optional (AnyFull (Derives z.1)) z.0 from vs) (None, 0) x from rest p.1 refl)
+      (λ p. let v = bind_some (r.full E S from) _ _ p.1 in
+        finish {A = Tall (Option FullExpression)} (λ z vs. Optional (AnyFull (Derives z.1)) z.0 from vs) (Some v.0.0.0, v.0.0.1) x v.0.1 rest v.2 (full_is from v.0.1 v.0.0 v.1))
+      (choice (sees row.Mark (codes ")") from) _ _ (x, rest) h)
+
+  return_is : (from rest : List Token) (z : Tall Stmt) → r.return_value E S from ≡ Some (z, rest) → StmtStands z from rest
+  unfolding r.return_value mark keyword
+  return_is from rest z h =
+      let s = bind_some (expect row.Reserved (codes "return") from) _ _ h in
+      let x = bind_some (r.maybe_expr E S s.0.1) _ _ s.2 in
+      let end = bind_some (expect row.Mark (codes ";") x.0.1) _ _ x.2 in
+      stmt_built x.0.0.1 _ _ from end.0.1 rest z (t.outs-Return s.0.0 x.0.0.0 end.0.0)
+      (s.0.1, x.0.1, expected _ _ _ _ _ s.1, maybe_expr_is s.0.1 x.0.1 x.0.0 x.1, expected _ _ _ _ _ end.1) end.2
+
+  condition_is : (from rest : List Token) (c : Tall Expr) → r.condition E S from ≡ Some (c, rest) → (m : ℕ) → c.1 ≤ m → InParentheses (Derives m) c.0 from rest
+  unfolding r.condition mark
+  condition_is from rest c h m le =
+      let o = bind_some (expect row.Mark (codes "(") from) _ _ h in
+      let x = bind_some (E 1 o.0.1) _ _ o.2 in
+      let d = bind_some (expect row.Mark (codes ")") x.0.1) _ _ x.2 in
+      let same = one {Y = Tall Expr × List Token} (x.0.0, d.0.1) (c, rest) d.2 in
+      let top : x.0.0.1 ≤ m = omega (arith, le, ap (λ p. p.0.1) same) in
+      subst (λ q. InParentheses (Derives m) q.0.0 from q.1) same
+      (o.0.1, x.0.1, expects _ _ _ _ _ o.1, value_at o.0.1 x.0.1 x.0.0 x.1 m top, expects _ _ _ _ _ d.1)
+
+  branch_is : (from rest : List Token) (z : Tall Stmt) → r.branch E S from ≡ Some (z, rest) → StmtStands z from rest
+  unfolding r.branch r.otherwise keyword
+  branch_is from rest z h =
+      let s = bind_some (expect row.Reserved (codes "if") from) _ _ h in
+      let c = bind_some (r.condition E S s.0.1) _ _ s.2 in
+      let a = bind_some (S c.0.1) _ _ c.2 in
+      by s.0.0 c.0.0 a.0.0 s.0.1 c.0.1 a.0.1 (expected _ _ _ _ _ s.1) (condition_is s.0.1 c.0.1 c.0.0 c.1) (stmt_at c.0.1 a.0.1 a.0.0 a.1) (sees row.Reserved (codes "else") a.0.1) refl a.2
+    where
+      unseen : (mid us : List Token) → sees row.Reserved (codes "else") mid ≡ false → Sees (word row.Reserved (codes "else")) mid us → ⊥
+      unfolding sees
+      unseen mid us is there = let clash : true ≡ false = sym (ap (sees row.Reserved (codes "else")) there.1.2) ∙ is in cc
+
+      by : (s : Spot) (c : Tall Expr) (a : Tall Stmt) (m k mid : List Token) → At (word row.Reserved (codes "if")) s from m →
+          ((n : ℕ) → c.1 ≤ n → InParentheses (Derives n) c.0 m k) → ((n : ℕ) → a.1 ≤ n → Derives n (a_stmt a.0) k mid) →
+          (b : Bool) → sees row.Reserved (codes "else") mid ≡ b →
+          (if b then (S >>= (λ y. grown (t.If s c.0 a.0 (Some y.0)) (max c.1 (max a.1 y.1)))) else grown (t.If s c.0 a.0 None) (max c.1 a.1)) (if b then next mid else mid) ≡ Some (z, rest) →
+          StmtStands z from rest
+      by s c a m k mid at test yes true is h =
+          let y = bind_some (S (next mid)) _ _ h in
+          let high = max c.1 (max a.1 y.0.0.1) in
+          stmt_built high _ _ from y.0.1 rest z (t.outs-If s c.0 a.0 (Some y.0.0.0))
+          (m, k, mid, next mid, at, test high (omega arith), yes high (omega arith), seen row.Reserved (codes "else") mid is, stmt_at (next mid) y.0.1 y.0.0 y.1 high (omega arith)) y.2
+      by s c a m k mid at test yes false is h =
+          let high = max c.1 a.1 in
+          stmt_built high _ _ from mid rest z (t.outs-If s c.0 a.0 None) (m, k, at, test high (omega arith), yes high (omega arith), λ us there. unseen mid us is there) h
+
+  while_is : (from rest : List Token) (z : Tall Stmt) → r.while_loop E S from ≡ Some (z, rest) → StmtStands z from rest
+  unfolding r.while_loop keyword
+  while_is from rest z h =
+      let s = bind_some (expect row.Reserved (codes "while") from) _ _ h in
+      let c = bind_some (r.condition E S s.0.1) _ _ s.2 in
+      let a = bind_some (S c.0.1) _ _ c.2 in
+      let high = max c.0.0.1 a.0.0.1 in
+      stmt_built high _ _ from a.0.1 rest z (t.outs-While s.0.0 c.0.0.0 a.0.0.0)
+      (s.0.1, c.0.1, expected _ _ _ _ _ s.1, condition_is s.0.1 c.0.1 c.0.0 c.1 high (omega arith), stmt_at c.0.1 a.0.1 a.0.0 a.1 high (omega arith)) a.2
+
+  do_is : (from rest : List Token) (z : Tall Stmt) → r.do_loop E S from ≡ Some (z, rest) → StmtStands z from rest
+  unfolding r.do_loop keyword mark
+  do_is from rest z h =
+      let s = bind_some (expect row.Reserved (codes "do") from) _ _ h in
+      let a = bind_some (S s.0.1) _ _ s.2 in
+      let w = bind_some (expect row.Reserved (codes "while") a.0.1) _ _ a.2 in
+      let c = bind_some (r.condition E S w.0.1) _ _ w.2 in
+      let end = bind_some (expect row.Mark (codes ";") c.0.1) _ _ c.2 in
+      let high = max a.0.0.1 c.0.0.1 in
+      stmt_built high _ _ from end.0.1 rest z (t.outs-Do s.0.0 a.0.0.0 c.0.0.0 end.0.0)
+      (s.0.1, a.0.1, w.0.1, c.0.1, expected _ _ _ _ _ s.1, stmt_at s.0.1 a.0.1 a.0.0 a.1 high (omega arith), expects _ _ _ _ _ w.1,
+        condition_is w.0.1 c.0.1 c.0.0 c.1 high (omega arith), expected _ _ _ _ _ end.1) end.2
+
+  plain_for_is : (s : Spot) (from m k rest : List Token) (z : Tall Stmt) → At (keyword "for") s from m → Sees (mark "(") m k → r.plain_for E S s k ≡ Some (z, rest) → StmtStands z from rest
+  unfolding r.plain_for mark
+  plain_for_is s from m k rest z at open_ h =
+      let a = bind_some (r.simple E S k) _ _ h in
+      let c = bind_some (r.maybe_expr E S a.0.1) _ _ a.2 in
+      let d = bind_some (expect row.Mark (codes ";") c.0.1) _ _ c.2 in
+      let b = bind_some (r.maybe_full E S d.0.1) _ _ d.2 in
+      let g = bind_some (expect row.Mark (codes ")") b.0.1) _ _ b.2 in
+      let x = bind_some (S g.0.1) _ _ g.2 in
+      let high = max (max a.0.0.1 c.0.0.1) (max b.0.0.1 x.0.0.1) in
+      let init = simple_is k a.0.1 a.0.0 a.1 in
+      let low_c : c.0.0.1 ≤ high = omega arith in
+      let low_b : b.0.0.1 ≤ high = omega arith in
+      let test = Optional-map (AnyExpr (Derives c.0.0.1)) (AnyExpr (Derives high)) (λ v us ts k. Derives-taller c.0.0.1 high low_c (an_expr 1 v) us ts k) c.0.0.0 a.0.1 c.0.1 (maybe_expr_is a.0.1 c.0.1 c.0.0 c.1) in
+      let last = Optional-map (AnyFull (Derives b.0.0.1)) (AnyFull (Derives high)) (λ v us ts k. Derives-taller b.0.0.1 high low_b (a_full v) us ts k) b.0.0.0 d.0.1 b.0.1 (maybe_full_is d.0.1 b.0.1 b.0.0 b.1) in
+      stmt_built high _ _ from x.0.1 rest z (t.outs-For s a.0.0.0 c.0.0.0 b.0.0.0 x.0.0.0)
+      (m, k, a.0.1, c.0.1, d.0.1, b.0.1, g.0.1, at, open_, (init.0, Derives-taller a.0.0.1 high (omega arith) (a_stmt a.0.0.0) k a.0.1 init.1.0), test, expects _ _ _ _ _ d.1, last,
+        expects _ _ _ _ _ g.1, stmt_at g.0.1 x.0.1 x.0.0 x.1 high (omega arith)) x.2
+
+  range_for_is : (s : Spot) (header : r.RangeHeader) (from m k after_header rest : List Token) (z : Tall Stmt) → At (keyword "for") s from m → Sees (mark "(") m k →
+      r.range_header k ≡ Some (header, after_header) → r.range_for E S s header after_header ≡ Some (z, rest) → StmtStands z from rest
+  unfolding r.range_header r.range_for mark keyword
+  range_for_is s header from m k after_header rest z at open_ head h =
+      let ty = bind_some (type_specifier (after row.Reserved (codes "const") k)) _ _ head in
+      let n = bind_some (lexed row.Ident (after row.Mark (codes "&") ty.0.1)) _ _ ty.2 in
+      let c = bind_some (expect row.Mark (codes ":") n.0.1) _ _ n.2 in
+      let same = one {Y = r.RangeHeader × List Token} (((sees row.Reserved (codes "const") k, ty.0.0), (sees row.Mark (codes "&") ty.0.1, n.0.0)), c.0.1) (header, after_header) c.2 in
+      let y = bind_some (lexed row.Ident after_header) _ _ h in
+      let d = bind_some (expect row.Mark (codes ")") y.0.1) _ _ y.2 in
+      let x = bind_some (S d.0.1) _ _ d.2 in
+      let tail_ = subst (λ us. Sees (mark ":") n.0.1 us) (ap (λ p. p.1) same) (expects _ _ _ _ _ c.1) in
+      let built = subst (λ q. (i j p u v : List Token) × Maybe (keyword "const") q.0.0 k i × TypeSpecified q.0.1 i j × Maybe (mark "&") q.1.0 j p × Identifier q.1.1 p u × Sees (mark ":") u v × (v ≡ after_header))
+          (ap (λ p. p.0) same)
+          (after row.Reserved (codes "const") k, ty.0.1, after row.Mark (codes "&") ty.0.1, n.0.1, after_header, eaten row.Reserved (codes "const") k,
+            type_specifier_is _ _ _ ty.1, eaten row.Mark (codes "&") ty.0.1, lexed_is _ _ _ _ n.1, tail_, refl) in
+      stmt_built x.0.0.1 _ _ from x.0.1 rest z (t.outs-RangeFor s header.0.0 header.0.1 header.1.0 header.1.1 y.0.0 x.0.0.0)
+      (m, k, built.0, built.1, built.2, built.3, built.4, d.0.1, at, open_, built.5, built.6, built.7, built.8, built.9,
+        (y.0.1, subst (λ us. Identifier y.0.0 us y.0.1) (sym built.10) (lexed_is _ _ _ _ y.1), expects _ _ _ _ _ d.1, (ws d.0.1 x.0.1 x.0.0 x.1).0)) x.2
+
+  for_is : (from rest : List Token) (z : Tall Stmt) → r.for_loop E S from ≡ Some (z, rest) → StmtStands z from rest
+  unfolding r.for_loop r.maybe_range_header mark keyword
+  for_is from rest z h =
+      let s = bind_some (expect row.Reserved (codes "for") from) _ _ h in
+      let o = bind_some (expect row.Mark (codes "(") s.0.1) _ _ s.2 in
+      by s.0.0 s.0.1 o.0.1 (expected _ _ _ _ _ s.1) (expects _ _ _ _ _ o.1) (r.range_header o.0.1) refl o.2
+    where
+      by : (s : Spot) (m k : List Token) → At (word row.Reserved (codes "for")) s from m → Sees (word row.Mark (codes "(")) m k → (o : Option (r.RangeHeader × List Token)) → r.range_header k ≡ o →
+          and_then (r.attempt_of k o) (λ h. r.for_by E S s h) ≡ Some (z, rest) → StmtStands z from rest
+      by s m k at open_ None is h = plain_for_is s from m k rest z at open_ h
+      by s m k at open_ (Some p) is h = range_for_is s p.0 from m k p.1 rest z at open_ is h
+
+  try_is : (from rest : List Token) (z : Tall Stmt) → r.try_block E S from ≡ Some (z, rest) → StmtStands z from rest
+  unfolding r.try_block r.handler mark keyword identifier
+  try_is from rest z h =
+      let s = bind_some (expect row.Reserved (codes "try") from) _ _ h in
+      let b = bind_some (e.one_block E S s.0.1) _ _ s.2 in
+      let x = bind_some (r.handler E S b.0.1) _ _ b.2 in
+      let c = bind_some (e.one_block E S x.0.1) _ _ x.2 in
+      let k = bind_some (expect row.Reserved (codes "catch") b.0.1) _ _ x.1 in
+      let o = bind_some (expect row.Mark (codes "(") k.0.1) _ _ k.2 in
+      let f = bind_some (expect row.Reserved (codes "const") o.0.1) _ _ o.2 in
+      let q = bind_some (within (codes "sycl") (codes "exception") f.0.1) _ _ f.2 in
+      let a = bind_some (expect row.Mark (codes "&") q.0.1) _ _ q.2 in
+      let n = bind_some (lexed row.Ident a.0.1) _ _ a.2 in
+      let d = bind_some (expect row.Mark (codes ")") n.0.1) _ _ n.2 in
+      let same = one {Y = Lexeme × List Token} (n.0.0, d.0.1) (x.0.0, x.0.1) d.2 in
+      let high = max b.0.0.1 c.0.0.1 in
+      let first = one_block_is E S ws s.0.1 b.0.1 b.0.0 b.1 in
+      let second = one_block_is E S ws x.0.1 c.0.1 c.0.0 c.1 in
+      stmt_built high _ _ from c.0.1 rest z (t.outs-Try s.0.0 b.0.0.0 x.0.0 c.0.0.0)
+      (s.0.1, b.0.1, k.0.1, o.0.1, f.0.1, q.0.1, a.0.1, x.0.1, q.0.0, expected _ _ _ _ _ s.1, Derives-taller b.0.0.1 high (omega arith) (a_block b.0.0.0) s.0.1 b.0.1 first.0,
+        expects _ _ _ _ _ k.1, expects _ _ _ _ _ o.1, expects _ _ _ _ _ f.1, within_is _ _ _ _ _ q.1, expects _ _ _ _ _ a.1,
+        (n.0.1, subst (λ y. Identifier y a.0.1 n.0.1) (ap (λ p. p.0) same) (lexed_is _ _ _ _ n.1), subst (λ us. Sees (mark ")") n.0.1 us) (ap (λ p. p.1) same) (expects _ _ _ _ _ d.1),
+          Derives-taller c.0.0.1 high (omega arith) (a_block c.0.0.0) x.0.1 c.0.1 second.0)) c.2
+
+  repeated_is : (from rest : List Token) (z : Tall Stmt) → r.repeated E S from ≡ Some (z, rest) → StmtStands z from rest
+  unfolding r.repeated
+  repeated_is from rest z h =
+      ⊎_elim (λ p. while_is from rest z p.1)
+      (λ p. ⊎_elim (λ p. do_is from rest z p.1)
+        (λ p. ⊎_elim (λ p. for_is from rest z p.1)
+          (λ p. ⊎_elim (λ p. try_is from rest z p.1) (λ p. (simple_is from rest z p.1).1)
+            (choice (sees row.Reserved (codes "try") from) _ _ (z, rest) p.1))
+          (choice (sees row.Reserved (codes "for") from) _ _ (z, rest) p.1))
+        (choice (sees row.Reserved (codes "do") from) _ _ (z, rest) p.1))
+      (choice (sees row.Reserved (codes "while") from) _ _ (z, rest) h)
+
+  reserved_is : (from rest : List Token) (z : Tall Stmt) → r.reserved E S from ≡ Some (z, rest) → StmtStands z from rest
+  unfolding r.reserved
+  reserved_is from rest z h =
+      ⊎_elim (λ p. branch_is from rest z p.1)
+      (λ p. ⊎_elim (λ p. break_is from rest z p.1)
+        (λ p. ⊎_elim (λ p. continue_is from rest z p.1)
+          (λ p. ⊎_elim (λ p. return_is from rest z p.1) (λ p. repeated_is from rest z p.1)
+            (choice (sees row.Reserved (codes "return") from) _ _ (z, rest) p.1))
+          (choice (sees row.Reserved (codes "continue") from) _ _ (z, rest) p.1))
+        (choice (sees row.Reserved (codes "break") from) _ _ (z, rest) p.1))
+      (choice (sees row.Reserved (codes "if") from) _ _ (z, rest) h)
+
+  pub one_stmt_is : (from rest : List Token) (z : Tall Stmt) → r.one_stmt E S from ≡ Some (z, rest) → StmtStands z from rest
+  unfolding r.one_stmt
+  one_stmt_is from rest z h =
+      ⊎_elim (λ p. compound_is from rest z p.1)
+      (λ p. ⊎_elim (λ p. reserved_is from rest z p.1)
+        (λ p. ⊎_elim (λ p. print_is from rest z p.1) (λ p. (simple_is from rest z p.1).1)
+          (choice (r.sees_print from) _ _ (z, rest) p.1))
+        (choice (sees_row row.Reserved from) _ _ (z, rest) p.1))
+      (choice (sees row.Mark (codes "{") from) _ _ (z, rest) h)
