@@ -43,6 +43,7 @@ use Rattle.sy_pexpr.proofs.Steps.{bind_some, one, choice, which, finish, grew, w
 use Rattle.sy_pexpr.proofs.PartsSound.{Library, library_is, library_name, opened_is, closed_is, empty_brackets_are, integral_is, one_word_integral_is, maybe_template_argument_is, object_by_is}
 use Rattle.sy_pexpr.specs.Tables.{tag_of, object_of, function_of, unary_of, step_of, operator_of, or_else, arithmetic_of, comparison_of, bitwise_of, logical_of}
 use Rattle.sy_tree.specs.Qualification.{same_row}
+use Rattle.sy_num.specs.declared.BinOp.{BinOp}
 use Rattle.sy_num.specs.declared.BinOp.TheVariants as bin
 use Rattle.sy_tree.specs.declared.operators.Operator.TheVariants as operator
 use Rattle.sy_tree.specs.declared.parts.Step.TheVariants as step
@@ -123,8 +124,8 @@ operator_text : (text : List ℕ) (o : Operator) → operator_of text ≡ Some o
 unfolding operator_of arithmetic_of comparison_of bitwise_of logical_of
 operator_text text o h =
     let row = mark_row text spelling in
-    let strict = λ b. operator.Strict b in
-    let P = λ a. text ≡ codes (spelling a) in
+    let strict : BinOp → Operator = λ b. operator.Strict b in
+    let P : Operator → Type 0 = λ a. text ≡ codes (spelling a) in
     or_else_is P (arithmetic_of text) _ o
     (row (strict bin.Add) _ o (row (strict bin.Sub) _ o (row (strict bin.Mul) _ o (row (strict bin.Div) _ o (row (strict bin.Rem) _ o (λ h. absurd cc))))))
     (or_else_is P (comparison_of text) _ o

@@ -81,7 +81,7 @@ module _ (text : List ℕ) (s : Spot) (from rest : List Token) (there : At (word
   fixed_width_is : (k : Kind) → fixed_width_of text ≡ Some k → Kinded k s from rest
   unfolding fixed_width_of
   fixed_width_is k h =
-      let P = λ k. Kinded k s from rest in
+      let P : Kind → Type 0 = λ k. Kinded k s from rest in
       pick P _ kind.SChar _ k (λ e. inr (inl (said "int8_t" e)))
       (pick P _ kind.UChar _ k (λ e. inr (inl (said "uint8_t" e)))
       (pick P _ kind.Short _ k (λ e. inr (inr (inl (said "int16_t" e))))
@@ -95,7 +95,7 @@ module _ (text : List ℕ) (s : Spot) (from rest : List Token) (there : At (word
   keyword_is : (k : Kind) → keyword_of text ≡ Some k → Kinded k s from rest
   unfolding keyword_of
   keyword_is k h =
-      let P = λ k. Kinded k s from rest in
+      let P : Kind → Type 0 = λ k. Kinded k s from rest in
       pick P _ kind.Int _ k (λ e. inl (said "int" e))
       (pick P _ kind.Bool _ k (λ e. inl (said "bool" e))
       (pick P _ kind.Char _ k (λ e. inl (said "char" e))
@@ -122,7 +122,7 @@ module _ (s : Spot) (from : List Token) where
   int_is : (j k : Kind) (m rest : List Token) → Kinded j s from m → ((us : List Token) → Sees (keyword "int") m us → Kinded j s from us) →
       r.eat_int j m ≡ Some (k, rest) → Kinded k s from rest
   int_is j k m rest without with_int h =
-      maybe_word "int" m (λ b us. Some (j, us) ≡ Some (k, rest) → Kinded k s from rest)
+      maybe_word "int" m (λ b us. pure j us ≡ Some (k, rest) → Kinded k s from rest)
       (λ us c h. finish (λ z vs. Kinded z s from vs) j k us rest h (with_int us c)) (λ h. finish (λ z vs. Kinded z s from vs) j k m rest h without) h
 
   long_is : (once twice k : Kind) (m rest : List Token) → Kinded once s from m → ((us : List Token) → Sees (keyword "int") m us → Kinded once s from us) →
@@ -292,7 +292,7 @@ module _ (text : List ℕ) (q : Qualified) (from m : List Token) (there : Librar
   plain_object_is : (t : ObjectType) → plain_object_of q text ≡ Some t → Object t from m
   unfolding plain_object_of
   plain_object_is t h =
-      let P = λ t. Object t from m in
+      let P : ObjectType → Type 0 = λ t. Object t from m in
       plain P _ (object.Queue q) _ t (λ e. name "queue" e)
       (plain P _ (object.Device q) _ t (λ e. name "device" e)
       (plain P _ (object.Context q) _ t (λ e. name "context" e)

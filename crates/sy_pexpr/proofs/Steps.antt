@@ -13,8 +13,7 @@ use Rattle.sy_tree.specs.declared.parts.Qualified.{Qualified}
 use Rattle.sy_tree.specs.Lists.{Rule, Maybe, Listed, MaybeListed}
 use Rattle.sy_tree.specs.Qualification.{same_row}
 use Rattle.sy_tree.specs.Words.{At, Sees, Lexed, Within, mark, identifier}
-use Rattle.sy_pexpr.specs.Input as r
-use Rattle.sy_pexpr.specs.Input.{Reader, Tall, and_then, ◌>>=◌, ◌>>◌, is_word, sees, expect, lexed, after, eat, grown, listed, all_listed, maybe_listed, advance, named, within}
+use Rattle.sy_pexpr.specs.Input.{Reader, Tall, pure, next, and_then, ◌>>=◌, ◌>>◌, is_word, sees, expect, lexed, after, eat, grown, listed, all_listed, maybe_listed, advance, named, within}
 
 -- ---- readers in general
 
@@ -27,7 +26,7 @@ pub one : {Y : Type 0} (p q : Y) → Some p ≡ Some q → p ≡ q
 one p q h = cc
 
 -- what an answer that is given has, the value read has
-pub finish : {A : Type 0} (P : A → List Token → Type 0) (a b : A) (ts rest : List Token) → Some (a, ts) ≡ Some (b, rest) → P a ts → P b rest
+pub finish : {A : Type 0} (P : A → List Token → Type 0) (a b : A) (ts rest : List Token) → ◌≡◌ {A = Option (A × List Token)} (Some (a, ts)) (Some (b, rest)) → P a ts → P b rest
 finish P a b ts rest h d = subst (λ q. P q.0 q.1) (one (a, ts) (b, rest) h) d
 
 pub guard_some : {Y : Type 0} (b : Bool) (x y : Y) → cond b (Some x) None ≡ Some y → (b ≡ true) × (x ≡ y)
@@ -49,7 +48,7 @@ and_both true b h = (refl, h)
 and_both false b h = absurd cc
 
 pub is_true : (b : Bool) → b ≡ true → IsTrue b
-is_true true h = tt
+is_true true h = refl
 is_true false h = absurd cc
 
 pub grew : {A : Type 0} (x : A) (h : ℕ) (ts : List Token) (y : Tall A) (rest : List Token) → grown x h ts ≡ Some (y, rest) → (h < 64) × (y ≡ (x, h + 1)) × (rest ≡ ts)
@@ -103,7 +102,7 @@ lexed_is r (t ∷ ts) rest x h =
     let text : t.word.text ≡ x.text = ap (λ p. p.0.text) k.1 in
     placed (word r x.text) x.spot t ts rest (ap (λ a. word a t.word.text) (same_row_is t.word.row r k.0) ∙ ap (λ b. word r b) text) (ap (λ p. p.0.spot) k.1) (ap (λ p. p.1) k.1)
 
-pub seen : (r : Row) (text : List ℕ) (from : List Token) → sees r text from ≡ true → Sees (word r text) from (r.next from)
+pub seen : (r : Row) (text : List ℕ) (from : List Token) → sees r text from ≡ true → Sees (word r text) from (next from)
 unfolding sees
 seen r text [] h = absurd cc
 seen r text (t ∷ ts) h = (t.spot, placed (word r text) t.spot t ts ts (is_that r text t.word h) refl refl)
@@ -112,7 +111,7 @@ pub eaten : (r : Row) (text : List ℕ) (from : List Token) → Maybe (word r te
 unfolding after
 eaten r text from = by (sees r text from) refl
   where
-    by : (b : Bool) → sees r text from ≡ b → Maybe (word r text) b from (cond b (r.next from) from)
+    by : (b : Bool) → sees r text from ≡ b → Maybe (word r text) b from (cond b (next from) from)
     by true h = seen r text from h
     by false h = refl
 
@@ -161,17 +160,17 @@ module _ {A : Type 0} (item : Reader (Tall A)) (P : ℕ → Rule A)
   list_step : (n : ℕ) (xs : List A) (h : ℕ) (from rest : List Token) (all : Tall (List A)) (x : Tall A) (mid : List Token) → item from ≡ Some (x, mid) →
       ((ys : List A) (g : ℕ) (ts : List Token) → listed item n ys g ts ≡ Some (all, rest) → ListStands ys g ts all rest) →
       (b : Bool) → sees row.Mark (codes ",") mid ≡ b →
-      (if b then listed item n (xs ++ x.0 ∷ []) (max h x.1) else r.pure (xs ++ x.0 ∷ [], max h x.1)) (if b then r.next mid else mid) ≡ Some (all, rest) →
+      (if b then listed item n (xs ++ x.0 ∷ []) (max h x.1) else pure (xs ++ x.0 ∷ [], max h x.1)) (if b then next mid else mid) ≡ Some (all, rest) →
       ListStands xs h from all rest
   unfolding mark
   list_step n xs h from rest all x mid d on true is e =
-      let others = on (xs ++ x.0 ∷ []) (max h x.1) (r.next mid) e in
+      let others = on (xs ++ x.0 ∷ []) (max h x.1) (next mid) e in
       let first = taller x.1 all.1 (omega (arith, others.2)) x.0 from mid (stands from mid x d) in (
         x.0,
         others.0 ∷ others.1,
         omega (arith, others.2),
         others.3 ∙ append_assoc xs (x.0 ∷ []) (others.0 ∷ others.1),
-        (mid, r.next mid, first, seen row.Mark (codes ",") mid is, others.4),
+        (mid, next mid, first, seen row.Mark (codes ",") mid is, others.4),
       )
   list_step n xs h from rest all x mid d on false is e =
       let same = one {Y = Tall (List A) × List Token} ((xs ++ x.0 ∷ [], max h x.1), mid) (all, rest) e in
@@ -195,7 +194,7 @@ module _ {A : Type 0} (item : Reader (Tall A)) (P : ℕ → Rule A)
   unfolding maybe_listed
   maybe_listed_stand close from rest all e = by (choice (sees row.Mark close from) (Some (([], 0), from)) (all_listed item from) (all, rest) e)
     where
-      by : ((sees row.Mark close from ≡ true) × (Some (([], 0), from) ≡ Some (all, rest))) ⊎ ((sees row.Mark close from ≡ false) × (all_listed item from ≡ Some (all, rest))) →
+      by : ((sees row.Mark close from ≡ true) × (◌≡◌ {A = Option (Tall (List A) × List Token)} (Some (([], 0), from)) (Some (all, rest)))) ⊎ ((sees row.Mark close from ≡ false) × (all_listed item from ≡ Some (all, rest))) →
           MaybeListed (P all.1) all.0 from rest
       by (inl h) = let same = one {Y = Tall (List A) × List Token} (([], 0), from) (all, rest) h.1 in subst (λ q. MaybeListed (P q.0.1) q.0.0 from q.1) same refl
       by (inr h) = let l = list_stands (length from) [] 0 from rest all h.1 in subst (λ ys. MaybeListed (P all.1) ys from rest) (sym l.3) l.4

@@ -156,6 +156,16 @@ standard_name : (text : List ℕ) (w : String) (q : Qualified) (from rest : List
 unfolding identifier mark
 standard_name text w q from rest h e = subst (λ t. Standard t q from rest) ((bytes_eq-Decides text (codes w)).0 e) h
 
+-- a block is the same node as a statement
+block_stmt : (h : ℕ) (b : Block) (us ts : List Token) → Derives h (a_block b) us ts → Derives h (a_stmt (t.Compound b)) us ts
+unfolding Derives
+block_stmt zero b us ts d = absurd d
+block_stmt (suc h) b us ts d = rw (t.outs-Compound b) d
+
+unseen : (mid us : List Token) → sees row.Reserved (codes "else") mid ≡ false → Sees (word row.Reserved (codes "else")) mid us → ⊥
+unfolding sees
+unseen mid us is there = let clash : true ≡ false = sym (ap (sees row.Reserved (codes "else")) there.1.2) ∙ is in cc
+
 module _ (E : ℕ → Reader (Tall Expr)) (S : Reader (Tall Stmt))
     (we : (l : ℕ) (from rest : List Token) (t : Tall Expr) → 1 ≤ l → l ≤ 12 → E l from ≡ Some (t, rest) → ExprSound l t from rest)
     (ws : (from rest : List Token) (t : Tall Stmt) → S from ≡ Some (t, rest) → StmtStands t from rest) where
@@ -382,11 +392,7 @@ module _ (E : ℕ → Reader (Tall Expr)) (S : Reader (Tall Stmt))
       let d = one_block_is E S ws from b.0.1 b.0.0 b.1 in
       finish {A = Tall Stmt} (λ u vs. StmtStands u from vs) (t.Compound b.0.0.0, b.0.0.1) z b.0.1 rest b.2
       (block_stmt b.0.0.1 b.0.0.0 from b.0.1 d.0, d.1)
-    where
-      block_stmt : (h : ℕ) (b : Block) (us ts : List Token) → Derives h (a_block b) us ts → Derives h (a_stmt (t.Compound b)) us ts
-      unfolding Derives
-      block_stmt zero b us ts d = absurd d
-      block_stmt (suc h) b us ts d = rw (t.outs-Compound b) d
+
 
   one_printed_is : (from rest : List Token) (x : Tall Printed) → r.one_printed E S from ≡ Some (x, rest) → OnePrinted (Derives x.1) x.0 from rest
   unfolding r.one_printed mark identifier
@@ -484,30 +490,26 @@ module _ (E : ℕ → Reader (Tall Expr)) (S : Reader (Tall Stmt))
       (o.0.1, x.0.1, expects _ _ _ _ _ o.1, value_at o.0.1 x.0.1 x.0.0 x.1 m top, expects _ _ _ _ _ d.1)
 
   branch_is : (from rest : List Token) (z : Tall Stmt) → r.branch E S from ≡ Some (z, rest) → StmtStands z from rest
-  unfolding r.branch r.otherwise keyword
+  unfolding r.branch r.otherwise keyword after
   branch_is from rest z h =
       let s = bind_some (expect row.Reserved (codes "if") from) _ _ h in
       let c = bind_some (r.condition E S s.0.1) _ _ s.2 in
       let a = bind_some (S c.0.1) _ _ c.2 in
       by s.0.0 c.0.0 a.0.0 s.0.1 c.0.1 a.0.1 (expected _ _ _ _ _ s.1) (condition_is s.0.1 c.0.1 c.0.0 c.1) (stmt_at c.0.1 a.0.1 a.0.0 a.1) (sees row.Reserved (codes "else") a.0.1) refl a.2
     where
-      unseen : (mid us : List Token) → sees row.Reserved (codes "else") mid ≡ false → Sees (word row.Reserved (codes "else")) mid us → ⊥
-      unfolding sees
-      unseen mid us is there = let clash : true ≡ false = sym (ap (sees row.Reserved (codes "else")) there.1.2) ∙ is in cc
-
       by : (s : Spot) (c : Tall Expr) (a : Tall Stmt) (m k mid : List Token) → At (word row.Reserved (codes "if")) s from m →
           ((n : ℕ) → c.1 ≤ n → InParentheses (Derives n) c.0 m k) → ((n : ℕ) → a.1 ≤ n → Derives n (a_stmt a.0) k mid) →
           (b : Bool) → sees row.Reserved (codes "else") mid ≡ b →
           (if b then (S >>= (λ y. grown (t.If s c.0 a.0 (Some y.0)) (max c.1 (max a.1 y.1)))) else grown (t.If s c.0 a.0 None) (max c.1 a.1)) (if b then next mid else mid) ≡ Some (z, rest) →
           StmtStands z from rest
-      by s c a m k mid at test yes true is h =
+      by s c a m k mid at test taken true is h =
           let y = bind_some (S (next mid)) _ _ h in
           let high = max c.1 (max a.1 y.0.0.1) in
           stmt_built high _ _ from y.0.1 rest z (t.outs-If s c.0 a.0 (Some y.0.0.0))
-          (m, k, mid, next mid, at, test high (omega arith), yes high (omega arith), seen row.Reserved (codes "else") mid is, stmt_at (next mid) y.0.1 y.0.0 y.1 high (omega arith)) y.2
-      by s c a m k mid at test yes false is h =
+          (m, k, mid, next mid, at, test high (omega arith), taken high (omega arith), seen row.Reserved (codes "else") mid is, stmt_at (next mid) y.0.1 y.0.0 y.1 high (omega arith)) y.2
+      by s c a m k mid at test taken false is h =
           let high = max c.1 a.1 in
-          stmt_built high _ _ from mid rest z (t.outs-If s c.0 a.0 None) (m, k, at, test high (omega arith), yes high (omega arith), λ us there. unseen mid us is there) h
+          stmt_built high _ _ from mid rest z (t.outs-If s c.0 a.0 None) (m, k, at, test high (omega arith), taken high (omega arith), λ us there. unseen mid us is there) h
 
   while_is : (from rest : List Token) (z : Tall Stmt) → r.while_loop E S from ≡ Some (z, rest) → StmtStands z from rest
   unfolding r.while_loop keyword
