@@ -1,0 +1,6 @@
+pub mod Answer
+pub mod ExprSound
+pub mod PartsSound
+pub mod Sound
+pub mod Steps
+pub mod StmtSound
