@@ -1,3 +1,1 @@
-pub mod PartsSound
-pub mod Steps
 pub mod Turns

@@ -7,8 +7,8 @@ use Rattle.sy_tree.specs.declared.tree.Stmt.{Stmt}
 use Rattle.sy_pexpr.specs.declared.cursor.Stop.{Stop}
 use Rattle.sy_pexpr.specs.declared.cursor.Stop.TheVariants.{Memory}
 use Rattle.sy_pexpr.specs.declared.cursor.Tokens.{Tokens}
-use Rattle.sy_pexpr.specs.Input.{Tall}
-use Rattle.sy_pexpr.specs.Reading.{read_expr, read_stmt}
+use Rattle.sy_reading.specs.Input.{Tall}
+use Rattle.sy_reading.specs.Reading.{read_expr, read_stmt}
 
 abbrev pub Reads : {A : Type 0} → Option (A × List Token) → Result A Stop → List Token → Type 0
 Reads answer (Ok a) new = answer ≡ Some (a, new)

@@ -3,7 +3,7 @@
 ghost use Rattle.std.specs.Prelude.{◌≡◌, length};
 ghost use Rattle.sy_tree.specs.Qualification as qualification;
 ghost use Rattle.sy_tree.specs.Units as units;
-ghost use Rattle.sy_pexpr.specs.Input as spec;
+ghost use Rattle.sy_reading.specs.Input as spec;
 ghost use Rattle.sy_pexpr.specs.Reads.{Reads};
 
 use std::alloc::{AllocError, Global};
@@ -109,7 +109,7 @@ impl<'a> Tokens<'a> {
     }
 
     /// Whether that word comes next.
-    #[tactic(auto, unfolding(crate::specs::Input::sees))]
+    #[tactic(auto, unfolding(sy_reading::specs::Input::sees))]
     pub fn sees(&self, row: Row, text: &[u8]) -> bool
         ensures { result ≡ spec.sees row text.now self.now.rest.now }
     {
@@ -120,7 +120,7 @@ impl<'a> Tokens<'a> {
     }
 
     /// Whether a word of that row comes next.
-    #[tactic(auto, unfolding(crate::specs::Input::sees_row))]
+    #[tactic(auto, unfolding(sy_reading::specs::Input::sees_row))]
     pub fn sees_row(&self, row: Row) -> bool
         ensures { result ≡ spec.sees_row row self.now.rest.now }
     {
@@ -131,7 +131,7 @@ impl<'a> Tokens<'a> {
     }
 
     /// Whether a name of that namespace comes next.
-    #[tactic(auto, unfolding(crate::specs::Input::sees_namespace))]
+    #[tactic(auto, unfolding(sy_reading::specs::Input::sees_namespace))]
     pub fn sees_namespace(&self, space: &[u8]) -> bool
         ensures { result ≡ spec.sees_namespace space.now self.now.rest.now }
     {
@@ -139,7 +139,7 @@ impl<'a> Tokens<'a> {
     }
 
     /// The text of the next token if it is a mark, or an empty text.
-    #[tactic(auto, unfolding(crate::specs::Input::mark_text))]
+    #[tactic(auto, unfolding(sy_reading::specs::Input::mark_text))]
     pub fn mark(&self) -> &'a [u8]
         ensures { result.now ≡ spec.mark_text self.now.rest.now }
     {
@@ -156,7 +156,7 @@ impl<'a> Tokens<'a> {
     }
 
     /// Takes that word, and gives its place.
-    #[tactic(auto, unfolding(crate::specs::Input::expect))]
+    #[tactic(auto, unfolding(sy_reading::specs::Input::expect))]
     pub fn expect(&mut self, row: Row, text: &[u8]) -> Result<Spot, Stop>
         ensures { Reads (spec.expect row text.now self.old.rest.now) result self.new.rest.now }
     {
@@ -174,7 +174,7 @@ impl<'a> Tokens<'a> {
     }
 
     /// Takes any token, and gives its place.
-    #[tactic(auto, unfolding(crate::specs::Input::advance))]
+    #[tactic(auto, unfolding(sy_reading::specs::Input::advance))]
     pub fn advance(&mut self) -> Result<Spot, Stop>
         ensures { Reads (spec.advance self.old.rest.now) result self.new.rest.now }
     {
@@ -188,7 +188,7 @@ impl<'a> Tokens<'a> {
     }
 
     /// Takes a token of that row, with a copy of its text.
-    #[tactic(auto, unfolding(crate::specs::Input::lexed))]
+    #[tactic(auto, unfolding(sy_reading::specs::Input::lexed))]
     pub fn lexed(&mut self, row: Row) -> Result<Lexeme, Stop>
         ensures { Reads (spec.lexed row self.old.rest.now) result self.new.rest.now }
     {
@@ -210,7 +210,7 @@ impl<'a> Tokens<'a> {
     }
 
     /// Takes that word, if it comes next.
-    #[tactic(auto, unfolding(crate::specs::Input::after))]
+    #[tactic(auto, unfolding(sy_reading::specs::Input::after))]
     pub fn eat(&mut self, row: Row, text: &[u8]) -> bool
         ensures found { result ≡ spec.sees row text.now self.old.rest.now }
         ensures after { self.new.rest.now ≡ spec.after row text.now self.old.rest.now }
@@ -223,7 +223,7 @@ impl<'a> Tokens<'a> {
     }
 
     /// Takes any name of that namespace.
-    #[tactic(auto, unfolding(crate::specs::Input::named))]
+    #[tactic(auto, unfolding(sy_reading::specs::Input::named))]
     pub fn named(&mut self, space: &[u8]) -> Result<(Spot, Lexeme), Stop>
         ensures { Reads (spec.named space.now self.old.rest.now) result self.new.rest.now }
     {
@@ -234,7 +234,7 @@ impl<'a> Tokens<'a> {
     }
 
     /// Takes that name of that namespace.
-    #[tactic(auto, unfolding(crate::specs::Input::within))]
+    #[tactic(auto, unfolding(sy_reading::specs::Input::within))]
     pub fn within(&mut self, space: &[u8], text: &[u8]) -> Result<Qualified, Stop>
         ensures { Reads (spec.within space.now text.now self.old.rest.now) result self.new.rest.now }
     {

@@ -2,9 +2,9 @@
 //! statements below as parameters, so that each is proved by itself.
 
 ghost use Rattle.std.specs.Prelude.{◌≡◌, ◌≤◌, [], Some, length, codes};
-ghost use Rattle.sy_pexpr.specs.Exprs as exprs;
-ghost use Rattle.sy_pexpr.specs.Input as input;
-ghost use Rattle.sy_pexpr.specs.Reading.{read_expr, read_stmt};
+ghost use Rattle.sy_reading.specs.Exprs as exprs;
+ghost use Rattle.sy_reading.specs.Input as input;
+ghost use Rattle.sy_reading.specs.Reading.{read_expr, read_stmt};
 ghost use Rattle.sy_pexpr.specs.Reads.{Reads, Nests};
 
 use crate::cursor::{Stop, Tall, Tokens};
@@ -28,7 +28,7 @@ const TURNS: usize = 65;
 
 /// How tightly a mark binds what stands before it: 1 `?`, 2 to 11 the operators with two operands, 13 what goes on with
 /// a primary expression, and 0 what doesn't go on with an expression.
-#[tactic(auto, unfolding(crate::specs::Exprs::binds_by))]
+#[tactic(auto, unfolding(sy_reading::specs::Exprs::binds_by))]
 fn binds_by(text: &[u8]) -> u8
     ensures { result ≡ exprs.binds_by text.now }
 {
@@ -53,7 +53,7 @@ fn binds_by(text: &[u8]) -> u8
 }
 
 /// How tightly the next token binds what stands before it.
-#[tactic(auto, unfolding(crate::specs::Exprs::binds))]
+#[tactic(auto, unfolding(sy_reading::specs::Exprs::binds))]
 fn binds(tokens: &Tokens<'_>) -> u8
     ensures { result ≡ exprs.binds tokens.now.rest.now }
 {
@@ -61,7 +61,7 @@ fn binds(tokens: &Tokens<'_>) -> u8
 }
 
 /// Whether a cast comes next, and not an expression in parentheses.
-#[tactic(auto, unfolding(crate::specs::Exprs::sees_cast))]
+#[tactic(auto, unfolding(sy_reading::specs::Exprs::sees_cast))]
 fn sees_cast(tokens: &Tokens<'_>) -> bool
     ensures { result ≡ exprs.sees_cast tokens.now.rest.now }
 {
@@ -90,7 +90,7 @@ impl<
         Err(Stop::Grammar)
     }
 
-    #[tactic(auto, unfolding(crate::specs::Exprs::one_block))]
+    #[tactic(auto, unfolding(sy_reading::specs::Exprs::one_block))]
     pub fn one_block(&self, tokens: &mut Tokens<'_>) -> Result<Tall<Block>, Stop>
         requires { Nests self.now.depth (E.pre self.now.expr) (E.post self.now.expr) (S.pre self.now.stmt) (S.post self.now.stmt) }
         ensures { Reads (exprs.one_block (read_expr self.now.depth) (read_stmt self.now.depth) tokens.old.rest.now) result tokens.new.rest.now }
@@ -106,7 +106,7 @@ impl<
         grown(tokens, block, height)
     }
 
-    #[tactic(auto, unfolding(crate::specs::Exprs::one_lambda))]
+    #[tactic(auto, unfolding(sy_reading::specs::Exprs::one_lambda))]
     pub fn one_lambda(&self, tokens: &mut Tokens<'_>) -> Result<Tall<Lambda>, Stop>
         requires { Nests self.now.depth (E.pre self.now.expr) (E.post self.now.expr) (S.pre self.now.stmt) (S.post self.now.stmt) }
         ensures { Reads (exprs.one_lambda (read_expr self.now.depth) (read_stmt self.now.depth) tokens.old.rest.now) result tokens.new.rest.now }
@@ -142,7 +142,7 @@ impl<
         Err(Stop::Grammar)
     }
 
-    #[tactic(auto, unfolding(crate::specs::Input::maybe_listed))]
+    #[tactic(auto, unfolding(sy_reading::specs::Input::maybe_listed))]
     pub fn maybe_exprs(&self, tokens: &mut Tokens<'_>, close: &[u8]) -> Result<Tall<Items<Expr>>, Stop>
         requires { Nests self.now.depth (E.pre self.now.expr) (E.post self.now.expr) (S.pre self.now.stmt) (S.post self.now.stmt) }
         ensures { Reads (input.maybe_listed (read_expr self.now.depth 1) close.now tokens.old.rest.now) result tokens.new.rest.now }
@@ -153,7 +153,7 @@ impl<
         self.expr_list(tokens)
     }
 
-    #[tactic(auto, unfolding(crate::specs::Exprs::braced))]
+    #[tactic(auto, unfolding(sy_reading::specs::Exprs::braced))]
     pub fn braced(&self, tokens: &mut Tokens<'_>) -> Result<Tall<Argument>, Stop>
         requires { Nests self.now.depth (E.pre self.now.expr) (E.post self.now.expr) (S.pre self.now.stmt) (S.post self.now.stmt) }
         ensures { Reads (exprs.braced (read_expr self.now.depth) (read_stmt self.now.depth) tokens.old.rest.now) result tokens.new.rest.now }
@@ -164,7 +164,7 @@ impl<
         Ok((Argument::Braced(spot, items, close), height))
     }
 
-    #[tactic(auto, unfolding(crate::specs::Exprs::one_argument))]
+    #[tactic(auto, unfolding(sy_reading::specs::Exprs::one_argument))]
     pub fn one_argument(&self, tokens: &mut Tokens<'_>) -> Result<Tall<Argument>, Stop>
         requires { Nests self.now.depth (E.pre self.now.expr) (E.post self.now.expr) (S.pre self.now.stmt) (S.post self.now.stmt) }
         ensures { Reads (exprs.one_argument (read_expr self.now.depth) (read_stmt self.now.depth) tokens.old.rest.now) result tokens.new.rest.now }
@@ -197,7 +197,7 @@ impl<
         Err(Stop::Grammar)
     }
 
-    #[tactic(auto, unfolding(crate::specs::Exprs::arguments, crate::specs::Input::maybe_listed))]
+    #[tactic(auto, unfolding(sy_reading::specs::Exprs::arguments, sy_reading::specs::Input::maybe_listed))]
     pub fn arguments(&self, tokens: &mut Tokens<'_>, close: &[u8]) -> Result<Tall<Items<Argument>>, Stop>
         requires { Nests self.now.depth (E.pre self.now.expr) (E.post self.now.expr) (S.pre self.now.stmt) (S.post self.now.stmt) }
         ensures { Reads (exprs.arguments (read_expr self.now.depth) (read_stmt self.now.depth) close.now tokens.old.rest.now) result tokens.new.rest.now }
@@ -208,7 +208,7 @@ impl<
         self.argument_list(tokens)
     }
 
-    #[tactic(auto, unfolding(crate::specs::Exprs::parenthesis))]
+    #[tactic(auto, unfolding(sy_reading::specs::Exprs::parenthesis))]
     pub fn parenthesis(&self, tokens: &mut Tokens<'_>) -> Result<(Tall<Expr>, Spot), Stop>
         requires { Nests self.now.depth (E.pre self.now.expr) (E.post self.now.expr) (S.pre self.now.stmt) (S.post self.now.stmt) }
         ensures { Reads (exprs.parenthesis (read_expr self.now.depth) (read_stmt self.now.depth) tokens.old.rest.now) result tokens.new.rest.now }
@@ -219,7 +219,7 @@ impl<
         Ok((inner, close))
     }
 
-    #[tactic(auto, unfolding(crate::specs::Exprs::parenthesized))]
+    #[tactic(auto, unfolding(sy_reading::specs::Exprs::parenthesized))]
     pub fn parenthesized(&self, tokens: &mut Tokens<'_>) -> Result<Tall<Expr>, Stop>
         requires { Nests self.now.depth (E.pre self.now.expr) (E.post self.now.expr) (S.pre self.now.stmt) (S.post self.now.stmt) }
         ensures { Reads (exprs.parenthesized (read_expr self.now.depth) (read_stmt self.now.depth) tokens.old.rest.now) result tokens.new.rest.now }
@@ -231,7 +231,7 @@ impl<
         grown(tokens, tree, height)
     }
 
-    #[tactic(auto, unfolding(crate::specs::Exprs::called))]
+    #[tactic(auto, unfolding(sy_reading::specs::Exprs::called))]
     pub fn called(&self, tokens: &mut Tokens<'_>, function: Lexeme) -> Result<Tall<Expr>, Stop>
         requires { Nests self.now.depth (E.pre self.now.expr) (E.post self.now.expr) (S.pre self.now.stmt) (S.post self.now.stmt) }
         ensures { Reads (exprs.called (read_expr self.now.depth) (read_stmt self.now.depth) function tokens.old.rest.now) result tokens.new.rest.now }
@@ -242,7 +242,7 @@ impl<
         grown(tokens, Expr::Call(function, items, close), height)
     }
 
-    #[tactic(auto, unfolding(crate::specs::Exprs::named_primary))]
+    #[tactic(auto, unfolding(sy_reading::specs::Exprs::named_primary))]
     pub fn named_primary(&self, tokens: &mut Tokens<'_>) -> Result<Tall<Expr>, Stop>
         requires { Nests self.now.depth (E.pre self.now.expr) (E.post self.now.expr) (S.pre self.now.stmt) (S.post self.now.stmt) }
         ensures { Reads (exprs.named_primary (read_expr self.now.depth) (read_stmt self.now.depth) tokens.old.rest.now) result tokens.new.rest.now }
@@ -255,7 +255,7 @@ impl<
         }
     }
 
-    #[tactic(auto, unfolding(crate::specs::Exprs::static_cast))]
+    #[tactic(auto, unfolding(sy_reading::specs::Exprs::static_cast))]
     pub fn static_cast(&self, tokens: &mut Tokens<'_>) -> Result<Tall<Expr>, Stop>
         requires { Nests self.now.depth (E.pre self.now.expr) (E.post self.now.expr) (S.pre self.now.stmt) (S.post self.now.stmt) }
         ensures { Reads (exprs.static_cast (read_expr self.now.depth) (read_stmt self.now.depth) tokens.old.rest.now) result tokens.new.rest.now }
@@ -269,7 +269,7 @@ impl<
         grown(tokens, tree, height)
     }
 
-    #[tactic(auto, unfolding(crate::specs::Exprs::functional_cast))]
+    #[tactic(auto, unfolding(sy_reading::specs::Exprs::functional_cast))]
     pub fn functional_cast(&self, tokens: &mut Tokens<'_>) -> Result<Tall<Expr>, Stop>
         requires { Nests self.now.depth (E.pre self.now.expr) (E.post self.now.expr) (S.pre self.now.stmt) (S.post self.now.stmt) }
         ensures { Reads (exprs.functional_cast (read_expr self.now.depth) (read_stmt self.now.depth) tokens.old.rest.now) result tokens.new.rest.now }
@@ -280,7 +280,7 @@ impl<
         grown(tokens, tree, height)
     }
 
-    #[tactic(auto, unfolding(crate::specs::Exprs::reserved_primary))]
+    #[tactic(auto, unfolding(sy_reading::specs::Exprs::reserved_primary))]
     pub fn reserved_primary(&self, tokens: &mut Tokens<'_>) -> Result<Tall<Expr>, Stop>
         requires { Nests self.now.depth (E.pre self.now.expr) (E.post self.now.expr) (S.pre self.now.stmt) (S.post self.now.stmt) }
         ensures { Reads (exprs.reserved_primary (read_expr self.now.depth) (read_stmt self.now.depth) tokens.old.rest.now) result tokens.new.rest.now }
@@ -298,7 +298,7 @@ impl<
         }
     }
 
-    #[tactic(auto, unfolding(crate::specs::Exprs::construct))]
+    #[tactic(auto, unfolding(sy_reading::specs::Exprs::construct))]
     pub fn construct(&self, tokens: &mut Tokens<'_>, name: Qualified, text: &[u8]) -> Result<Tall<Expr>, Stop>
         requires { Nests self.now.depth (E.pre self.now.expr) (E.post self.now.expr) (S.pre self.now.stmt) (S.post self.now.stmt) }
         ensures { Reads (exprs.construct (read_expr self.now.depth) (read_stmt self.now.depth) name text.now tokens.old.rest.now) result tokens.new.rest.now }
@@ -311,7 +311,7 @@ impl<
         grown(tokens, tree, height)
     }
 
-    #[tactic(auto, unfolding(crate::specs::Exprs::in_order))]
+    #[tactic(auto, unfolding(sy_reading::specs::Exprs::in_order))]
     pub fn in_order(&self, tokens: &mut Tokens<'_>, name: Qualified) -> Result<Tall<Expr>, Stop>
         requires { Nests self.now.depth (E.pre self.now.expr) (E.post self.now.expr) (S.pre self.now.stmt) (S.post self.now.stmt) }
         ensures { Reads (exprs.in_order (read_expr self.now.depth) (read_stmt self.now.depth) name tokens.old.rest.now) result tokens.new.rest.now }
@@ -323,7 +323,7 @@ impl<
         grown(tokens, Expr::InOrder(name, brackets, close), 0)
     }
 
-    #[tactic(auto, unfolding(crate::specs::Exprs::initialize_to_identity))]
+    #[tactic(auto, unfolding(sy_reading::specs::Exprs::initialize_to_identity))]
     pub fn initialize_to_identity(&self, tokens: &mut Tokens<'_>, name: Qualified) -> Result<Tall<Expr>, Stop>
         requires { Nests self.now.depth (E.pre self.now.expr) (E.post self.now.expr) (S.pre self.now.stmt) (S.post self.now.stmt) }
         ensures { Reads (exprs.initialize_to_identity (read_expr self.now.depth) (read_stmt self.now.depth) name tokens.old.rest.now) result tokens.new.rest.now }
@@ -335,7 +335,7 @@ impl<
         grown(tokens, Expr::InitializeToIdentity(name, brackets, close), 0)
     }
 
-    #[tactic(auto, unfolding(crate::specs::Exprs::property))]
+    #[tactic(auto, unfolding(sy_reading::specs::Exprs::property))]
     pub fn property(&self, tokens: &mut Tokens<'_>, name: Qualified) -> Result<Tall<Expr>, Stop>
         requires { Nests self.now.depth (E.pre self.now.expr) (E.post self.now.expr) (S.pre self.now.stmt) (S.post self.now.stmt) }
         ensures { Reads (exprs.property (read_expr self.now.depth) (read_stmt self.now.depth) name tokens.old.rest.now) result tokens.new.rest.now }
@@ -348,7 +348,7 @@ impl<
         }
     }
 
-    #[tactic(auto, unfolding(crate::specs::Exprs::group_barrier))]
+    #[tactic(auto, unfolding(sy_reading::specs::Exprs::group_barrier))]
     pub fn group_barrier(&self, tokens: &mut Tokens<'_>, name: Qualified) -> Result<Tall<Expr>, Stop>
         requires { Nests self.now.depth (E.pre self.now.expr) (E.post self.now.expr) (S.pre self.now.stmt) (S.post self.now.stmt) }
         ensures { Reads (exprs.group_barrier (read_expr self.now.depth) (read_stmt self.now.depth) name tokens.old.rest.now) result tokens.new.rest.now }
@@ -358,7 +358,7 @@ impl<
         grown(tokens, tree, height)
     }
 
-    #[tactic(auto, unfolding(crate::specs::Exprs::error_code))]
+    #[tactic(auto, unfolding(sy_reading::specs::Exprs::error_code))]
     pub fn error_code(&self, tokens: &mut Tokens<'_>, name: Qualified) -> Result<Tall<Expr>, Stop>
         requires { Nests self.now.depth (E.pre self.now.expr) (E.post self.now.expr) (S.pre self.now.stmt) (S.post self.now.stmt) }
         ensures { Reads (exprs.error_code (read_expr self.now.depth) (read_stmt self.now.depth) name tokens.old.rest.now) result tokens.new.rest.now }
@@ -368,7 +368,7 @@ impl<
         grown(tokens, Expr::ErrorCode(name, error), 0)
     }
 
-    #[tactic(auto, unfolding(crate::specs::Exprs::maybe_integral))]
+    #[tactic(auto, unfolding(sy_reading::specs::Exprs::maybe_integral))]
     pub fn maybe_integral(&self, tokens: &mut Tokens<'_>) -> Result<Option<IntegerType>, Stop>
         requires { Nests self.now.depth (E.pre self.now.expr) (E.post self.now.expr) (S.pre self.now.stmt) (S.post self.now.stmt) }
         ensures { Reads (exprs.maybe_integral (read_expr self.now.depth) (read_stmt self.now.depth) tokens.old.rest.now) result tokens.new.rest.now }
@@ -381,7 +381,7 @@ impl<
         }
     }
 
-    #[tactic(auto, unfolding(crate::specs::Exprs::function_object))]
+    #[tactic(auto, unfolding(sy_reading::specs::Exprs::function_object))]
     pub fn function_object(&self, tokens: &mut Tokens<'_>, name: Qualified, function: FunctionObject) -> Result<Tall<Expr>, Stop>
         requires { Nests self.now.depth (E.pre self.now.expr) (E.post self.now.expr) (S.pre self.now.stmt) (S.post self.now.stmt) }
         ensures { Reads (exprs.function_object (read_expr self.now.depth) (read_stmt self.now.depth) name function tokens.old.rest.now) result tokens.new.rest.now }
@@ -394,7 +394,7 @@ impl<
         grown(tokens, tree, 0)
     }
 
-    #[tactic(auto, unfolding(crate::specs::Exprs::library_call))]
+    #[tactic(auto, unfolding(sy_reading::specs::Exprs::library_call))]
     pub fn library_call(&self, tokens: &mut Tokens<'_>, name: Qualified, function: LibraryFunction) -> Result<Tall<Expr>, Stop>
         requires { Nests self.now.depth (E.pre self.now.expr) (E.post self.now.expr) (S.pre self.now.stmt) (S.post self.now.stmt) }
         ensures { Reads (exprs.library_call (read_expr self.now.depth) (read_stmt self.now.depth) name function tokens.old.rest.now) result tokens.new.rest.now }
@@ -407,7 +407,7 @@ impl<
     }
 
     /// A name of the library that is no access tag, no function object and no function with a value.
-    #[tactic(auto, unfolding(crate::specs::Exprs::other_name))]
+    #[tactic(auto, unfolding(sy_reading::specs::Exprs::other_name))]
     pub fn other_name(&self, tokens: &mut Tokens<'_>, name: Qualified, text: &[u8]) -> Result<Tall<Expr>, Stop>
         requires { Nests self.now.depth (E.pre self.now.expr) (E.post self.now.expr) (S.pre self.now.stmt) (S.post self.now.stmt) }
         ensures { Reads (exprs.other_name (read_expr self.now.depth) (read_stmt self.now.depth) name text.now tokens.old.rest.now) result tokens.new.rest.now }
@@ -423,7 +423,7 @@ impl<
         }
     }
 
-    #[tactic(auto, unfolding(crate::specs::Exprs::library_by))]
+    #[tactic(auto, unfolding(sy_reading::specs::Exprs::library_by))]
     pub fn library_by(&self, tokens: &mut Tokens<'_>, name: Qualified, text: &[u8]) -> Result<Tall<Expr>, Stop>
         requires { Nests self.now.depth (E.pre self.now.expr) (E.post self.now.expr) (S.pre self.now.stmt) (S.post self.now.stmt) }
         ensures { Reads (exprs.library_by (read_expr self.now.depth) (read_stmt self.now.depth) name text.now tokens.old.rest.now) result tokens.new.rest.now }
@@ -440,7 +440,7 @@ impl<
         }
     }
 
-    #[tactic(auto, unfolding(crate::specs::Exprs::library))]
+    #[tactic(auto, unfolding(sy_reading::specs::Exprs::library))]
     pub fn library(&self, tokens: &mut Tokens<'_>) -> Result<Tall<Expr>, Stop>
         requires { Nests self.now.depth (E.pre self.now.expr) (E.post self.now.expr) (S.pre self.now.stmt) (S.post self.now.stmt) }
         ensures { Reads (exprs.library (read_expr self.now.depth) (read_stmt self.now.depth) tokens.old.rest.now) result tokens.new.rest.now }
@@ -449,7 +449,7 @@ impl<
         self.library_by(tokens, qualified(namespace, &name), name.text.items())
     }
 
-    #[tactic(auto, unfolding(crate::specs::Exprs::primary))]
+    #[tactic(auto, unfolding(sy_reading::specs::Exprs::primary))]
     pub fn primary(&self, tokens: &mut Tokens<'_>) -> Result<Tall<Expr>, Stop>
         requires { Nests self.now.depth (E.pre self.now.expr) (E.post self.now.expr) (S.pre self.now.stmt) (S.post self.now.stmt) }
         ensures { Reads (exprs.primary (read_expr self.now.depth) (read_stmt self.now.depth) tokens.old.rest.now) result tokens.new.rest.now }
@@ -471,7 +471,7 @@ impl<
         }
     }
 
-    #[tactic(auto, unfolding(crate::specs::Exprs::subscript))]
+    #[tactic(auto, unfolding(sy_reading::specs::Exprs::subscript))]
     pub fn subscript(&self, tokens: &mut Tokens<'_>, base: Tall<Expr>) -> Result<Tall<Expr>, Stop>
         requires { Nests self.now.depth (E.pre self.now.expr) (E.post self.now.expr) (S.pre self.now.stmt) (S.post self.now.stmt) }
         ensures { Reads (exprs.subscript (read_expr self.now.depth) (read_stmt self.now.depth) base tokens.old.rest.now) result tokens.new.rest.now }
@@ -489,7 +489,7 @@ impl<
         grown(tokens, tree, height.max(tall))
     }
 
-    #[tactic(auto, unfolding(crate::specs::Exprs::member))]
+    #[tactic(auto, unfolding(sy_reading::specs::Exprs::member))]
     pub fn member(&self, tokens: &mut Tokens<'_>, base: Tall<Expr>) -> Result<Tall<Expr>, Stop>
         requires { Nests self.now.depth (E.pre self.now.expr) (E.post self.now.expr) (S.pre self.now.stmt) (S.post self.now.stmt) }
         ensures { Reads (exprs.member (read_expr self.now.depth) (read_stmt self.now.depth) base tokens.old.rest.now) result tokens.new.rest.now }
@@ -511,7 +511,7 @@ impl<
         grown(tokens, tree, height.max(tall))
     }
 
-    #[tactic(auto, unfolding(crate::specs::Exprs::stepped))]
+    #[tactic(auto, unfolding(sy_reading::specs::Exprs::stepped))]
     pub fn stepped(&self, tokens: &mut Tokens<'_>, base: Tall<Expr>) -> Result<Tall<Expr>, Stop>
         requires { Nests self.now.depth (E.pre self.now.expr) (E.post self.now.expr) (S.pre self.now.stmt) (S.post self.now.stmt) }
         ensures { Reads (exprs.stepped (read_expr self.now.depth) (read_stmt self.now.depth) base tokens.old.rest.now) result tokens.new.rest.now }
@@ -525,7 +525,7 @@ impl<
         grown(tokens, tree, height)
     }
 
-    #[tactic(auto, unfolding(crate::specs::Exprs::postfix))]
+    #[tactic(auto, unfolding(sy_reading::specs::Exprs::postfix))]
     pub fn postfix(&self, tokens: &mut Tokens<'_>, base: Tall<Expr>) -> Result<Tall<Expr>, Stop>
         requires { Nests self.now.depth (E.pre self.now.expr) (E.post self.now.expr) (S.pre self.now.stmt) (S.post self.now.stmt) }
         ensures { Reads (exprs.postfix (read_expr self.now.depth) (read_stmt self.now.depth) base tokens.old.rest.now) result tokens.new.rest.now }
@@ -552,7 +552,7 @@ impl<
         Err(Stop::Grammar)
     }
 
-    #[tactic(auto, unfolding(crate::specs::Exprs::whole_postfix))]
+    #[tactic(auto, unfolding(sy_reading::specs::Exprs::whole_postfix))]
     pub fn whole_postfix(&self, tokens: &mut Tokens<'_>) -> Result<Tall<Expr>, Stop>
         requires { Nests self.now.depth (E.pre self.now.expr) (E.post self.now.expr) (S.pre self.now.stmt) (S.post self.now.stmt) }
         ensures { Reads (exprs.whole_postfix (read_expr self.now.depth) (read_stmt self.now.depth) tokens.old.rest.now) result tokens.new.rest.now }
@@ -561,7 +561,7 @@ impl<
         self.postfixes(tokens, base)
     }
 
-    #[tactic(auto, unfolding(crate::specs::Exprs::cast))]
+    #[tactic(auto, unfolding(sy_reading::specs::Exprs::cast))]
     pub fn cast(&self, tokens: &mut Tokens<'_>) -> Result<Tall<Expr>, Stop>
         requires { Nests self.now.depth (E.pre self.now.expr) (E.post self.now.expr) (S.pre self.now.stmt) (S.post self.now.stmt) }
         ensures { Reads (exprs.cast (read_expr self.now.depth) (read_stmt self.now.depth) tokens.old.rest.now) result tokens.new.rest.now }
@@ -574,7 +574,7 @@ impl<
         grown(tokens, tree, height)
     }
 
-    #[tactic(auto, unfolding(crate::specs::Exprs::prefix_step))]
+    #[tactic(auto, unfolding(sy_reading::specs::Exprs::prefix_step))]
     pub fn prefix_step(&self, tokens: &mut Tokens<'_>, operator: Step) -> Result<Tall<Expr>, Stop>
         requires { Nests self.now.depth (E.pre self.now.expr) (E.post self.now.expr) (S.pre self.now.stmt) (S.post self.now.stmt) }
         ensures { Reads (exprs.prefix_step (read_expr self.now.depth) (read_stmt self.now.depth) operator tokens.old.rest.now) result tokens.new.rest.now }
@@ -585,7 +585,7 @@ impl<
         grown(tokens, tree, height)
     }
 
-    #[tactic(auto, unfolding(crate::specs::Exprs::unary))]
+    #[tactic(auto, unfolding(sy_reading::specs::Exprs::unary))]
     pub fn unary(&self, tokens: &mut Tokens<'_>, operator: UnOp) -> Result<Tall<Expr>, Stop>
         requires { Nests self.now.depth (E.pre self.now.expr) (E.post self.now.expr) (S.pre self.now.stmt) (S.post self.now.stmt) }
         ensures { Reads (exprs.unary (read_expr self.now.depth) (read_stmt self.now.depth) operator tokens.old.rest.now) result tokens.new.rest.now }
@@ -596,7 +596,7 @@ impl<
         grown(tokens, tree, height)
     }
 
-    #[tactic(auto, unfolding(crate::specs::Exprs::cast_or_postfix))]
+    #[tactic(auto, unfolding(sy_reading::specs::Exprs::cast_or_postfix))]
     pub fn cast_or_postfix(&self, tokens: &mut Tokens<'_>) -> Result<Tall<Expr>, Stop>
         requires { Nests self.now.depth (E.pre self.now.expr) (E.post self.now.expr) (S.pre self.now.stmt) (S.post self.now.stmt) }
         ensures { Reads (exprs.cast_or_postfix (read_expr self.now.depth) (read_stmt self.now.depth) tokens.old.rest.now) result tokens.new.rest.now }
@@ -608,7 +608,7 @@ impl<
         }
     }
 
-    #[tactic(auto, unfolding(crate::specs::Exprs::prefix))]
+    #[tactic(auto, unfolding(sy_reading::specs::Exprs::prefix))]
     pub fn prefix(&self, tokens: &mut Tokens<'_>) -> Result<Tall<Expr>, Stop>
         requires { Nests self.now.depth (E.pre self.now.expr) (E.post self.now.expr) (S.pre self.now.stmt) (S.post self.now.stmt) }
         ensures { Reads (exprs.prefix (read_expr self.now.depth) (read_stmt self.now.depth) tokens.old.rest.now) result tokens.new.rest.now }
@@ -623,7 +623,7 @@ impl<
         }
     }
 
-    #[tactic(auto, unfolding(crate::specs::Exprs::binary))]
+    #[tactic(auto, unfolding(sy_reading::specs::Exprs::binary))]
     pub fn binary(&self, tokens: &mut Tokens<'_>, operator: Operator, left: Tall<Expr>) -> Result<Tall<Expr>, Stop>
         requires { Nests self.now.depth (E.pre self.now.expr) (E.post self.now.expr) (S.pre self.now.stmt) (S.post self.now.stmt) }
         ensures { Reads (exprs.binary (read_expr self.now.depth) (read_stmt self.now.depth) operator left tokens.old.rest.now) result tokens.new.rest.now }
@@ -640,7 +640,7 @@ impl<
         grown(tokens, tree, height.max(tall))
     }
 
-    #[tactic(auto, unfolding(crate::specs::Exprs::conditional))]
+    #[tactic(auto, unfolding(sy_reading::specs::Exprs::conditional))]
     pub fn conditional(&self, tokens: &mut Tokens<'_>, tested: Tall<Expr>) -> Result<Tall<Expr>, Stop>
         requires { Nests self.now.depth (E.pre self.now.expr) (E.post self.now.expr) (S.pre self.now.stmt) (S.post self.now.stmt) }
         ensures { Reads (exprs.conditional (read_expr self.now.depth) (read_stmt self.now.depth) tested tokens.old.rest.now) result tokens.new.rest.now }
@@ -659,7 +659,7 @@ impl<
         grown(tokens, tree, height.max(yes_height.max(no_height)))
     }
 
-    #[tactic(auto, unfolding(crate::specs::Exprs::operation))]
+    #[tactic(auto, unfolding(sy_reading::specs::Exprs::operation))]
     pub fn operation(&self, tokens: &mut Tokens<'_>, left: Tall<Expr>) -> Result<Tall<Expr>, Stop>
         requires { Nests self.now.depth (E.pre self.now.expr) (E.post self.now.expr) (S.pre self.now.stmt) (S.post self.now.stmt) }
         ensures { Reads (exprs.operation (read_expr self.now.depth) (read_stmt self.now.depth) left tokens.old.rest.now) result tokens.new.rest.now }
@@ -686,7 +686,7 @@ impl<
         Err(Stop::Grammar)
     }
 
-    #[tactic(auto, unfolding(crate::specs::Exprs::chain))]
+    #[tactic(auto, unfolding(sy_reading::specs::Exprs::chain))]
     pub fn chain(&self, tokens: &mut Tokens<'_>, least: u8) -> Result<Tall<Expr>, Stop>
         requires { Nests self.now.depth (E.pre self.now.expr) (E.post self.now.expr) (S.pre self.now.stmt) (S.post self.now.stmt) }
         ensures { Reads (exprs.chain (read_expr self.now.depth) (read_stmt self.now.depth) least tokens.old.rest.now) result tokens.new.rest.now }

@@ -1,9 +1,9 @@
 //! The recursion: expressions and statements hold one another.
 
 ghost use Rattle.std.specs.Prelude.{◌≡◌};
-ghost use Rattle.sy_pexpr.specs.Input as input;
-ghost use Rattle.sy_pexpr.specs.Reading as spec;
-ghost use Rattle.sy_pexpr.specs.Reading.{read_expr, read_stmt};
+ghost use Rattle.sy_reading.specs.Input as input;
+ghost use Rattle.sy_reading.specs.Reading as spec;
+ghost use Rattle.sy_reading.specs.Reading.{read_expr, read_stmt};
 ghost use Rattle.sy_pexpr.specs.Reads.{Reads, Nests};
 
 use crate::cursor::{Stop, Tall, Tokens};
@@ -53,7 +53,7 @@ impl<
 
 /// An expression whose loosest operator is of that level or tighter.
 #[cycle(parser)]
-#[tactic(auto, unfolding(crate::specs::Reading::readers))]
+#[tactic(auto, unfolding(sy_reading::specs::Reading::readers))]
 pub fn read_expr(tokens: &mut Tokens<'_>, depth: usize, least: u8) -> Result<Tall<Expr>, Stop>
     ensures { Reads (spec.read_expr depth least tokens.old.rest.now) result tokens.new.rest.now }
 {
@@ -69,7 +69,7 @@ pub fn read_expr(tokens: &mut Tokens<'_>, depth: usize, least: u8) -> Result<Tal
 }
 
 #[cycle(parser)]
-#[tactic(auto, unfolding(crate::specs::Reading::readers))]
+#[tactic(auto, unfolding(sy_reading::specs::Reading::readers))]
 pub fn read_stmt(tokens: &mut Tokens<'_>, depth: usize) -> Result<Tall<Stmt>, Stop>
     ensures { Reads (spec.read_stmt depth tokens.old.rest.now) result tokens.new.rest.now }
 {

@@ -3,8 +3,7 @@
 
 ghost use Rattle.std.specs.Prelude.{◌≡◌, IfOk, IsErrOf};
 ghost use Rattle.sy_note.specs.declared.Diagnostic.{Diagnostic};
-ghost use Rattle.sy_pexpr.specs.Answers.{IsExprRead, IsBlockRead};
-ghost use Rattle.sy_tree.specs.Units as units;
+ghost use Rattle.sy_tree.specs.Units.{IsRun, IsBlock};
 
 mod cursor;
 mod exprs;
@@ -47,15 +46,13 @@ fn refusal(toks: &[Token], left: usize) -> FrontStop
 
 /// The expression that begins at `at` and is followed by what ends one, and the place after it.
 pub fn expr(alloc: Global, toks: &[Token], at: usize) -> Result<(Expr, usize), FrontStop>
-    ensures { IfOk result (λ f. IsExprRead toks.now at f.0 f.1) }
+    ensures found { IfOk result (λ f. IsRun toks.now at f.0 f.1) }
 {
     if at > toks.len() {
         return Err(refusal(toks, 0));
     }
-    let mut tokens = Tokens {
-        alloc,
-        rest: &toks[at..],
-    };
+    let (_before, rest) = toks.split_at(at);
+    let mut tokens = Tokens { alloc, rest };
     match read_expr(&mut tokens, 64, 1) {
         Ok((tree, _height)) => {
             if tokens.ends() {
@@ -71,15 +68,13 @@ pub fn expr(alloc: Global, toks: &[Token], at: usize) -> Result<(Expr, usize), F
 
 /// The block that begins at `at`, and the place after it.
 pub fn block(alloc: Global, toks: &[Token], at: usize) -> Result<(Block, usize), FrontStop>
-    ensures { IfOk result (λ f. IsBlockRead toks.now at f.0 f.1) }
+    ensures found { IfOk result (λ f. IsBlock toks.now at f.0 f.1) }
 {
     if at > toks.len() {
         return Err(refusal(toks, 0));
     }
-    let mut tokens = Tokens {
-        alloc,
-        rest: &toks[at..],
-    };
+    let (_before, rest) = toks.split_at(at);
+    let mut tokens = Tokens { alloc, rest };
     match read_block(&mut tokens) {
         Ok((tree, _height)) => Ok((tree, toks.len().saturating_sub(tokens.left()))),
         Err(Stop::Grammar) => Err(refusal(toks, tokens.left())),

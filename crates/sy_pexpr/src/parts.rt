@@ -1,8 +1,8 @@
 //! Types, captures, parameters and template arguments: the parts that hold no expression.
 
 ghost use Rattle.std.specs.Prelude.{◌≡◌, [], Some, length, codes};
-ghost use Rattle.sy_pexpr.specs.Input as input;
-ghost use Rattle.sy_pexpr.specs.Parts as spec;
+ghost use Rattle.sy_reading.specs.Input as input;
+ghost use Rattle.sy_reading.specs.Parts as spec;
 ghost use Rattle.sy_pexpr.specs.Reads.{Reads};
 
 use crate::cursor::{Stop, Tall, Tokens};
@@ -27,7 +27,7 @@ pub fn closing_text(brackets: Brackets) -> &'static [u8]
 }
 
 /// `(` or `{`.
-#[tactic(auto, unfolding(crate::specs::Parts::opened))]
+#[tactic(auto, unfolding(sy_reading::specs::Parts::opened))]
 pub fn opened(tokens: &mut Tokens<'_>) -> Result<(Brackets, Spot), Stop>
     ensures { Reads (spec.opened tokens.old.rest.now) result tokens.new.rest.now }
 {
@@ -41,14 +41,14 @@ pub fn opened(tokens: &mut Tokens<'_>) -> Result<(Brackets, Spot), Stop>
 }
 
 /// The bracket that closes.
-#[tactic(auto, unfolding(crate::specs::Parts::closed))]
+#[tactic(auto, unfolding(sy_reading::specs::Parts::closed))]
 pub fn closed(tokens: &mut Tokens<'_>, brackets: Brackets) -> Result<Spot, Stop>
     ensures { Reads (spec.closed brackets tokens.old.rest.now) result tokens.new.rest.now }
 {
     tokens.expect(Row::Mark, closing_text(brackets))
 }
 
-#[tactic(auto, unfolding(crate::specs::Parts::empty_brackets))]
+#[tactic(auto, unfolding(sy_reading::specs::Parts::empty_brackets))]
 pub fn empty_brackets(tokens: &mut Tokens<'_>) -> Result<(Brackets, Spot), Stop>
     ensures { Reads (spec.empty_brackets tokens.old.rest.now) result tokens.new.rest.now }
 {
@@ -57,7 +57,7 @@ pub fn empty_brackets(tokens: &mut Tokens<'_>) -> Result<(Brackets, Spot), Stop>
     Ok((brackets, close))
 }
 
-#[tactic(auto, unfolding(crate::specs::Parts::long_kind))]
+#[tactic(auto, unfolding(sy_reading::specs::Parts::long_kind))]
 fn long_kind(tokens: &mut Tokens<'_>, once: Kind, twice: Kind) -> Result<Kind, Stop>
     ensures { Reads (spec.long_kind once twice tokens.old.rest.now) result tokens.new.rest.now }
 {
@@ -70,7 +70,7 @@ fn long_kind(tokens: &mut Tokens<'_>, once: Kind, twice: Kind) -> Result<Kind, S
     Ok(kind)
 }
 
-#[tactic(auto, unfolding(crate::specs::Parts::signed_kind))]
+#[tactic(auto, unfolding(sy_reading::specs::Parts::signed_kind))]
 fn signed_kind(tokens: &mut Tokens<'_>) -> Result<Kind, Stop>
     ensures { Reads (spec.signed_kind tokens.old.rest.now) result tokens.new.rest.now }
 {
@@ -81,7 +81,7 @@ fn signed_kind(tokens: &mut Tokens<'_>) -> Result<Kind, Stop>
     Ok(Kind::Int)
 }
 
-#[tactic(auto, unfolding(crate::specs::Parts::unsigned_kind))]
+#[tactic(auto, unfolding(sy_reading::specs::Parts::unsigned_kind))]
 fn unsigned_kind(tokens: &mut Tokens<'_>) -> Result<Kind, Stop>
     ensures { Reads (spec.unsigned_kind tokens.old.rest.now) result tokens.new.rest.now }
 {
@@ -101,7 +101,7 @@ fn unsigned_kind(tokens: &mut Tokens<'_>) -> Result<Kind, Stop>
 }
 
 /// The type that begins with this word.
-#[tactic(auto, unfolding(crate::specs::Parts::kind_by))]
+#[tactic(auto, unfolding(sy_reading::specs::Parts::kind_by))]
 fn kind_by(tokens: &mut Tokens<'_>, text: &[u8]) -> Result<Kind, Stop>
     ensures { Reads (spec.kind_by text.now tokens.old.rest.now) result tokens.new.rest.now }
 {
@@ -123,7 +123,7 @@ fn kind_by(tokens: &mut Tokens<'_>, text: &[u8]) -> Result<Kind, Stop>
 }
 
 /// An integer type.
-#[tactic(auto, unfolding(crate::specs::Parts::integral))]
+#[tactic(auto, unfolding(sy_reading::specs::Parts::integral))]
 pub fn integral(tokens: &mut Tokens<'_>) -> Result<IntegerType, Stop>
     ensures { Reads (spec.integral tokens.old.rest.now) result tokens.new.rest.now }
 {
@@ -136,7 +136,7 @@ pub fn integral(tokens: &mut Tokens<'_>) -> Result<IntegerType, Stop>
 }
 
 /// An integer type of one word.
-#[tactic(auto, unfolding(crate::specs::Parts::one_word))]
+#[tactic(auto, unfolding(sy_reading::specs::Parts::one_word))]
 pub fn one_word(tokens: &mut Tokens<'_>) -> Result<IntegerType, Stop>
     ensures { Reads (spec.one_word tokens.old.rest.now) result tokens.new.rest.now }
 {
@@ -151,7 +151,7 @@ pub fn one_word(tokens: &mut Tokens<'_>) -> Result<IntegerType, Stop>
 }
 
 /// Whether an integer type begins.
-#[tactic(auto, unfolding(crate::specs::Parts::sees_type))]
+#[tactic(auto, unfolding(sy_reading::specs::Parts::sees_type))]
 pub fn sees_type(tokens: &Tokens<'_>) -> bool
     ensures { result ≡ spec.sees_type tokens.now.rest.now }
 {
@@ -163,7 +163,7 @@ pub fn sees_type(tokens: &Tokens<'_>) -> bool
     }
 }
 
-#[tactic(auto, unfolding(crate::specs::Parts::type_specifier))]
+#[tactic(auto, unfolding(sy_reading::specs::Parts::type_specifier))]
 pub fn type_specifier(tokens: &mut Tokens<'_>) -> Result<TypeSpecifier, Stop>
     ensures { Reads (spec.type_specifier tokens.old.rest.now) result tokens.new.rest.now }
 {
@@ -176,7 +176,7 @@ pub fn type_specifier(tokens: &mut Tokens<'_>) -> Result<TypeSpecifier, Stop>
     }
 }
 
-#[tactic(auto, unfolding(crate::specs::Parts::const_specifier))]
+#[tactic(auto, unfolding(sy_reading::specs::Parts::const_specifier))]
 pub fn const_specifier(tokens: &mut Tokens<'_>) -> Result<Option<ConstSpecifier>, Stop>
     ensures { Reads (spec.const_specifier tokens.old.rest.now) result tokens.new.rest.now }
 {
@@ -192,7 +192,7 @@ pub fn const_specifier(tokens: &mut Tokens<'_>) -> Result<Option<ConstSpecifier>
 }
 
 /// The dimensions in `<` and `>`.
-#[tactic(auto, unfolding(crate::specs::Parts::dimensions))]
+#[tactic(auto, unfolding(sy_reading::specs::Parts::dimensions))]
 fn dimensions(tokens: &mut Tokens<'_>) -> Result<Lexeme, Stop>
     ensures { Reads (spec.dimensions tokens.old.rest.now) result tokens.new.rest.now }
 {
@@ -202,7 +202,7 @@ fn dimensions(tokens: &mut Tokens<'_>) -> Result<Lexeme, Stop>
     Ok(number)
 }
 
-#[tactic(auto, unfolding(crate::specs::Parts::maybe_dimensions))]
+#[tactic(auto, unfolding(sy_reading::specs::Parts::maybe_dimensions))]
 fn maybe_dimensions(tokens: &mut Tokens<'_>) -> Result<Option<Lexeme>, Stop>
     ensures { Reads (spec.maybe_dimensions tokens.old.rest.now) result tokens.new.rest.now }
 {
@@ -214,7 +214,7 @@ fn maybe_dimensions(tokens: &mut Tokens<'_>) -> Result<Option<Lexeme>, Stop>
     }
 }
 
-#[tactic(auto, unfolding(crate::specs::Parts::comma_dimensions))]
+#[tactic(auto, unfolding(sy_reading::specs::Parts::comma_dimensions))]
 fn comma_dimensions(tokens: &mut Tokens<'_>) -> Result<Option<Lexeme>, Stop>
     ensures { Reads (spec.comma_dimensions tokens.old.rest.now) result tokens.new.rest.now }
 {
@@ -226,7 +226,7 @@ fn comma_dimensions(tokens: &mut Tokens<'_>) -> Result<Option<Lexeme>, Stop>
     }
 }
 
-#[tactic(auto, unfolding(crate::specs::Parts::elements))]
+#[tactic(auto, unfolding(sy_reading::specs::Parts::elements))]
 fn elements(tokens: &mut Tokens<'_>) -> Result<ElementArguments, Stop>
     ensures { Reads (spec.elements tokens.old.rest.now) result tokens.new.rest.now }
 {
@@ -240,7 +240,7 @@ fn elements(tokens: &mut Tokens<'_>) -> Result<ElementArguments, Stop>
     })
 }
 
-#[tactic(auto, unfolding(crate::specs::Parts::maybe_elements))]
+#[tactic(auto, unfolding(sy_reading::specs::Parts::maybe_elements))]
 fn maybe_elements(tokens: &mut Tokens<'_>) -> Result<Option<ElementArguments>, Stop>
     ensures { Reads (spec.maybe_elements tokens.old.rest.now) result tokens.new.rest.now }
 {
@@ -253,7 +253,7 @@ fn maybe_elements(tokens: &mut Tokens<'_>) -> Result<Option<ElementArguments>, S
 }
 
 /// The types that may have template arguments, after the name.
-#[tactic(auto, unfolding(crate::specs::Parts::template_object))]
+#[tactic(auto, unfolding(sy_reading::specs::Parts::template_object))]
 fn template_object(tokens: &mut Tokens<'_>, name: Qualified, text: &[u8]) -> Result<ObjectType, Stop>
     ensures { Reads (spec.template_object name text.now tokens.old.rest.now) result tokens.new.rest.now }
 {
@@ -278,7 +278,7 @@ fn template_object(tokens: &mut Tokens<'_>, name: Qualified, text: &[u8]) -> Res
 }
 
 /// The type of an object of the library, after its name.
-#[tactic(auto, unfolding(crate::specs::Parts::object_by))]
+#[tactic(auto, unfolding(sy_reading::specs::Parts::object_by))]
 pub fn object_by(tokens: &mut Tokens<'_>, name: Qualified, text: &[u8]) -> Result<ObjectType, Stop>
     ensures { Reads (spec.object_by name text.now tokens.old.rest.now) result tokens.new.rest.now }
 {
@@ -299,7 +299,7 @@ pub fn qualified(namespace: Spot, name: &Lexeme) -> Qualified
 }
 
 /// The type of an object of the library.
-#[tactic(auto, unfolding(crate::specs::Parts::object_type))]
+#[tactic(auto, unfolding(sy_reading::specs::Parts::object_type))]
 pub fn object_type(tokens: &mut Tokens<'_>) -> Result<ObjectType, Stop>
     ensures { Reads (spec.object_type tokens.old.rest.now) result tokens.new.rest.now }
 {
@@ -308,7 +308,7 @@ pub fn object_type(tokens: &mut Tokens<'_>) -> Result<ObjectType, Stop>
 }
 
 /// Whether the type of an object of the library and a name come next.
-#[tactic(auto, unfolding(crate::specs::Parts::declares_object))]
+#[tactic(auto, unfolding(sy_reading::specs::Parts::declares_object))]
 pub fn declares_object(tokens: &Tokens<'_>) -> Result<bool, Stop>
     ensures { Reads (Some (spec.declares_object tokens.now.rest.now, tokens.now.rest.now)) result tokens.now.rest.now }
 {
@@ -323,7 +323,7 @@ pub fn declares_object(tokens: &Tokens<'_>) -> Result<bool, Stop>
     }
 }
 
-#[tactic(auto, unfolding(crate::specs::Parts::reference_capture))]
+#[tactic(auto, unfolding(sy_reading::specs::Parts::reference_capture))]
 fn reference_capture(tokens: &mut Tokens<'_>) -> Result<Tall<Capture>, Stop>
     ensures { Reads (spec.reference_capture tokens.old.rest.now) result tokens.new.rest.now }
 {
@@ -336,7 +336,7 @@ fn reference_capture(tokens: &mut Tokens<'_>) -> Result<Tall<Capture>, Stop>
     }
 }
 
-#[tactic(auto, unfolding(crate::specs::Parts::one_capture))]
+#[tactic(auto, unfolding(sy_reading::specs::Parts::one_capture))]
 fn one_capture(tokens: &mut Tokens<'_>) -> Result<Tall<Capture>, Stop>
     ensures { Reads (spec.one_capture tokens.old.rest.now) result tokens.new.rest.now }
 {
@@ -368,7 +368,7 @@ fn capture_list(tokens: &mut Tokens<'_>) -> Result<Tall<Items<Capture>>, Stop>
 }
 
 /// The captures, up to the `]`.
-#[tactic(auto, unfolding(crate::specs::Input::maybe_listed))]
+#[tactic(auto, unfolding(sy_reading::specs::Input::maybe_listed))]
 pub fn captures(tokens: &mut Tokens<'_>) -> Result<Tall<Items<Capture>>, Stop>
     ensures { Reads (input.maybe_listed spec.one_capture (codes "]") tokens.old.rest.now) result tokens.new.rest.now }
 {
@@ -379,7 +379,7 @@ pub fn captures(tokens: &mut Tokens<'_>) -> Result<Tall<Items<Capture>>, Stop>
 }
 
 /// The type of a parameter of a lambda, after its name.
-#[tactic(auto, unfolding(crate::specs::Parts::parameter_by))]
+#[tactic(auto, unfolding(sy_reading::specs::Parts::parameter_by))]
 fn parameter_by(tokens: &mut Tokens<'_>, name: Qualified, text: &[u8]) -> Result<LambdaParameterType, Stop>
     ensures { Reads (spec.parameter_by name text.now tokens.old.rest.now) result tokens.new.rest.now }
 {
@@ -399,7 +399,7 @@ fn parameter_by(tokens: &mut Tokens<'_>, name: Qualified, text: &[u8]) -> Result
     }
 }
 
-#[tactic(auto, unfolding(crate::specs::Parts::parameter_type))]
+#[tactic(auto, unfolding(sy_reading::specs::Parts::parameter_type))]
 fn parameter_type(tokens: &mut Tokens<'_>) -> Result<LambdaParameterType, Stop>
     ensures { Reads (spec.parameter_type tokens.old.rest.now) result tokens.new.rest.now }
 {
@@ -411,7 +411,7 @@ fn parameter_type(tokens: &mut Tokens<'_>) -> Result<LambdaParameterType, Stop>
     parameter_by(tokens, qualified(namespace, &name), name.text.items())
 }
 
-#[tactic(auto, unfolding(crate::specs::Parts::one_parameter))]
+#[tactic(auto, unfolding(sy_reading::specs::Parts::one_parameter))]
 fn one_parameter(tokens: &mut Tokens<'_>) -> Result<Tall<LambdaParameter>, Stop>
     ensures { Reads (spec.one_parameter tokens.old.rest.now) result tokens.new.rest.now }
 {
@@ -444,7 +444,7 @@ fn parameter_list(tokens: &mut Tokens<'_>) -> Result<Tall<Items<LambdaParameter>
     Err(Stop::Grammar)
 }
 
-#[tactic(auto, unfolding(crate::specs::Input::maybe_listed))]
+#[tactic(auto, unfolding(sy_reading::specs::Input::maybe_listed))]
 fn parameters(tokens: &mut Tokens<'_>) -> Result<Tall<Items<LambdaParameter>>, Stop>
     ensures { Reads (input.maybe_listed spec.one_parameter (codes ")") tokens.old.rest.now) result tokens.new.rest.now }
 {
@@ -455,7 +455,7 @@ fn parameters(tokens: &mut Tokens<'_>) -> Result<Tall<Items<LambdaParameter>>, S
 }
 
 /// The parameters of a lambda in their parentheses, if they are there.
-#[tactic(auto, unfolding(crate::specs::Parts::maybe_parameters))]
+#[tactic(auto, unfolding(sy_reading::specs::Parts::maybe_parameters))]
 pub fn maybe_parameters(tokens: &mut Tokens<'_>) -> Result<Option<Items<LambdaParameter>>, Stop>
     ensures { Reads (spec.maybe_parameters tokens.old.rest.now) result tokens.new.rest.now }
 {
@@ -467,7 +467,7 @@ pub fn maybe_parameters(tokens: &mut Tokens<'_>) -> Result<Option<Items<LambdaPa
     Ok(Some(found))
 }
 
-#[tactic(auto, unfolding(crate::specs::Parts::kernel_name))]
+#[tactic(auto, unfolding(sy_reading::specs::Parts::kernel_name))]
 fn kernel_name(tokens: &mut Tokens<'_>) -> Result<TemplateArgument, Stop>
     ensures { Reads (spec.kernel_name tokens.old.rest.now) result tokens.new.rest.now }
 {
@@ -476,7 +476,7 @@ fn kernel_name(tokens: &mut Tokens<'_>) -> Result<TemplateArgument, Stop>
     Ok(TemplateArgument::Kernel(is_class, name))
 }
 
-#[tactic(auto, unfolding(crate::specs::Parts::information))]
+#[tactic(auto, unfolding(sy_reading::specs::Parts::information))]
 fn information(tokens: &mut Tokens<'_>) -> Result<TemplateArgument, Stop>
     ensures { Reads (spec.information tokens.old.rest.now) result tokens.new.rest.now }
 {
@@ -488,7 +488,7 @@ fn information(tokens: &mut Tokens<'_>) -> Result<TemplateArgument, Stop>
     Ok(TemplateArgument::Information(info, object, name))
 }
 
-#[tactic(auto, unfolding(crate::specs::Parts::template_argument))]
+#[tactic(auto, unfolding(sy_reading::specs::Parts::template_argument))]
 fn template_argument(tokens: &mut Tokens<'_>) -> Result<TemplateArgument, Stop>
     ensures { Reads (spec.template_argument tokens.old.rest.now) result tokens.new.rest.now }
 {
@@ -503,7 +503,7 @@ fn template_argument(tokens: &mut Tokens<'_>) -> Result<TemplateArgument, Stop>
 }
 
 /// The template argument of a member that takes one.
-#[tactic(auto, unfolding(crate::specs::Parts::maybe_template_argument))]
+#[tactic(auto, unfolding(sy_reading::specs::Parts::maybe_template_argument))]
 pub fn maybe_template_argument(tokens: &mut Tokens<'_>, member: &[u8]) -> Result<Option<TemplateArgument>, Stop>
     ensures { Reads (spec.maybe_template_argument member.now tokens.old.rest.now) result tokens.new.rest.now }
 {

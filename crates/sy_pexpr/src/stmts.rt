@@ -2,11 +2,11 @@
 //! that each is proved by itself.
 
 ghost use Rattle.std.specs.Prelude.{◌≡◌, [], Some, length, codes};
-ghost use Rattle.sy_pexpr.specs.Exprs as exprs;
-ghost use Rattle.sy_pexpr.specs.Input as input;
-ghost use Rattle.sy_pexpr.specs.Reading.{read_expr, read_stmt};
+ghost use Rattle.sy_reading.specs.Exprs as exprs;
+ghost use Rattle.sy_reading.specs.Input as input;
+ghost use Rattle.sy_reading.specs.Reading.{read_expr, read_stmt};
 ghost use Rattle.sy_pexpr.specs.Reads.{Reads, Nests};
-ghost use Rattle.sy_pexpr.specs.Stmts as stmts;
+ghost use Rattle.sy_reading.specs.Stmts as stmts;
 
 use crate::cursor::{Stop, Tall, Tokens};
 use crate::grammar::{Grammar, grown};
@@ -26,7 +26,7 @@ use sy_tree::{
 /// What a range-for begins with: whether the element is const and its type, whether it is a reference and its name.
 type RangeHeader = ((bool, TypeSpecifier), (bool, Lexeme));
 
-#[tactic(auto, unfolding(crate::specs::Stmts::range_header))]
+#[tactic(auto, unfolding(sy_reading::specs::Stmts::range_header))]
 fn range_header(tokens: &mut Tokens<'_>) -> Result<RangeHeader, Stop>
     ensures { Reads (stmts.range_header tokens.old.rest.now) result tokens.new.rest.now }
 {
@@ -39,7 +39,7 @@ fn range_header(tokens: &mut Tokens<'_>) -> Result<RangeHeader, Stop>
 }
 
 /// Takes what a range-for begins with, if it is there.
-#[tactic(auto, unfolding(crate::specs::Stmts::maybe_range_header))]
+#[tactic(auto, unfolding(sy_reading::specs::Stmts::maybe_range_header))]
 fn maybe_range_header(tokens: &mut Tokens<'_>) -> Result<Option<RangeHeader>, Stop>
     ensures { Reads (stmts.maybe_range_header tokens.old.rest.now) result tokens.new.rest.now }
 {
@@ -58,7 +58,7 @@ fn maybe_range_header(tokens: &mut Tokens<'_>) -> Result<Option<RangeHeader>, St
 }
 
 /// Whether a declaration of integers begins, and no cast.
-#[tactic(auto, unfolding(crate::specs::Stmts::declares_integers))]
+#[tactic(auto, unfolding(sy_reading::specs::Stmts::declares_integers))]
 fn declares_integers(tokens: &Tokens<'_>) -> bool
     ensures { result ≡ stmts.declares_integers tokens.now.rest.now }
 {
@@ -69,7 +69,7 @@ fn declares_integers(tokens: &Tokens<'_>) -> bool
 }
 
 /// Whether `std::cout` comes next.
-#[tactic(auto, unfolding(crate::specs::Stmts::sees_print))]
+#[tactic(auto, unfolding(sy_reading::specs::Stmts::sees_print))]
 fn sees_print(tokens: &Tokens<'_>) -> bool
     ensures { result ≡ stmts.sees_print tokens.now.rest.now }
 {
@@ -80,7 +80,7 @@ impl<
     E: Fn(&mut Tokens<'_>, usize, u8) -> Result<Tall<Expr>, Stop>,
     S: Fn(&mut Tokens<'_>, usize) -> Result<Tall<Stmt>, Stop>,
 > Grammar<E, S> {
-    #[tactic(auto, unfolding(crate::specs::Stmts::bracketed_declarator))]
+    #[tactic(auto, unfolding(sy_reading::specs::Stmts::bracketed_declarator))]
     pub fn bracketed_declarator(&self, tokens: &mut Tokens<'_>, name: Lexeme) -> Result<Tall<Declarator>, Stop>
         requires { Nests self.now.depth (E.pre self.now.expr) (E.post self.now.expr) (S.pre self.now.stmt) (S.post self.now.stmt) }
         ensures { Reads (stmts.bracketed_declarator (read_expr self.now.depth) (read_stmt self.now.depth) name tokens.old.rest.now) result tokens.new.rest.now }
@@ -94,7 +94,7 @@ impl<
         ))
     }
 
-    #[tactic(auto, unfolding(crate::specs::Stmts::equal_declarator))]
+    #[tactic(auto, unfolding(sy_reading::specs::Stmts::equal_declarator))]
     pub fn equal_declarator(&self, tokens: &mut Tokens<'_>, name: Lexeme) -> Result<Tall<Declarator>, Stop>
         requires { Nests self.now.depth (E.pre self.now.expr) (E.post self.now.expr) (S.pre self.now.stmt) (S.post self.now.stmt) }
         ensures { Reads (stmts.equal_declarator (read_expr self.now.depth) (read_stmt self.now.depth) name tokens.old.rest.now) result tokens.new.rest.now }
@@ -104,7 +104,7 @@ impl<
         Ok((Declarator::Equal(name, spot, value), height))
     }
 
-    #[tactic(auto, unfolding(crate::specs::Stmts::one_declarator))]
+    #[tactic(auto, unfolding(sy_reading::specs::Stmts::one_declarator))]
     pub fn one_declarator(&self, tokens: &mut Tokens<'_>) -> Result<Tall<Declarator>, Stop>
         requires { Nests self.now.depth (E.pre self.now.expr) (E.post self.now.expr) (S.pre self.now.stmt) (S.post self.now.stmt) }
         ensures { Reads (stmts.one_declarator (read_expr self.now.depth) (read_stmt self.now.depth) tokens.old.rest.now) result tokens.new.rest.now }
@@ -136,7 +136,7 @@ impl<
         Err(Stop::Grammar)
     }
 
-    #[tactic(auto, unfolding(crate::specs::Stmts::integers))]
+    #[tactic(auto, unfolding(sy_reading::specs::Stmts::integers))]
     pub fn integers(&self, tokens: &mut Tokens<'_>) -> Result<Tall<Declaration>, Stop>
         requires { Nests self.now.depth (E.pre self.now.expr) (E.post self.now.expr) (S.pre self.now.stmt) (S.post self.now.stmt) }
         ensures { Reads (stmts.integers (read_expr self.now.depth) (read_stmt self.now.depth) tokens.old.rest.now) result tokens.new.rest.now }
@@ -149,7 +149,7 @@ impl<
     }
 
     /// The arguments of an initializer: none only in braces.
-    #[tactic(auto, unfolding(crate::specs::Stmts::direct_arguments))]
+    #[tactic(auto, unfolding(sy_reading::specs::Stmts::direct_arguments))]
     pub fn direct_arguments(&self, tokens: &mut Tokens<'_>, brackets: Brackets) -> Result<Tall<Items<Argument>>, Stop>
         requires { Nests self.now.depth (E.pre self.now.expr) (E.post self.now.expr) (S.pre self.now.stmt) (S.post self.now.stmt) }
         ensures { Reads (stmts.direct_arguments (read_expr self.now.depth) (read_stmt self.now.depth) brackets tokens.old.rest.now) result tokens.new.rest.now }
@@ -160,7 +160,7 @@ impl<
         }
     }
 
-    #[tactic(auto, unfolding(crate::specs::Stmts::direct))]
+    #[tactic(auto, unfolding(sy_reading::specs::Stmts::direct))]
     pub fn direct(&self, tokens: &mut Tokens<'_>) -> Result<Tall<Initializer>, Stop>
         requires { Nests self.now.depth (E.pre self.now.expr) (E.post self.now.expr) (S.pre self.now.stmt) (S.post self.now.stmt) }
         ensures { Reads (stmts.direct (read_expr self.now.depth) (read_stmt self.now.depth) tokens.old.rest.now) result tokens.new.rest.now }
@@ -171,7 +171,7 @@ impl<
         Ok((Initializer::Direct(brackets, open, items, close), height))
     }
 
-    #[tactic(auto, unfolding(crate::specs::Stmts::maybe_initializer))]
+    #[tactic(auto, unfolding(sy_reading::specs::Stmts::maybe_initializer))]
     pub fn maybe_initializer(&self, tokens: &mut Tokens<'_>) -> Result<Tall<Option<Initializer>>, Stop>
         requires { Nests self.now.depth (E.pre self.now.expr) (E.post self.now.expr) (S.pre self.now.stmt) (S.post self.now.stmt) }
         ensures { Reads (stmts.maybe_initializer (read_expr self.now.depth) (read_stmt self.now.depth) tokens.old.rest.now) result tokens.new.rest.now }
@@ -188,7 +188,7 @@ impl<
         }
     }
 
-    #[tactic(auto, unfolding(crate::specs::Stmts::object_declaration))]
+    #[tactic(auto, unfolding(sy_reading::specs::Stmts::object_declaration))]
     pub fn object_declaration(&self, tokens: &mut Tokens<'_>) -> Result<Tall<Declaration>, Stop>
         requires { Nests self.now.depth (E.pre self.now.expr) (E.post self.now.expr) (S.pre self.now.stmt) (S.post self.now.stmt) }
         ensures { Reads (stmts.object_declaration (read_expr self.now.depth) (read_stmt self.now.depth) tokens.old.rest.now) result tokens.new.rest.now }
@@ -200,7 +200,7 @@ impl<
         Ok((Declaration::Object(object, name, initializer, end), height))
     }
 
-    #[tactic(auto, unfolding(crate::specs::Stmts::integer_vector))]
+    #[tactic(auto, unfolding(sy_reading::specs::Stmts::integer_vector))]
     pub fn integer_vector(&self, tokens: &mut Tokens<'_>, vector: Qualified) -> Result<Tall<Declaration>, Stop>
         requires { Nests self.now.depth (E.pre self.now.expr) (E.post self.now.expr) (S.pre self.now.stmt) (S.post self.now.stmt) }
         ensures { Reads (stmts.integer_vector (read_expr self.now.depth) (read_stmt self.now.depth) vector tokens.old.rest.now) result tokens.new.rest.now }
@@ -216,7 +216,7 @@ impl<
         ))
     }
 
-    #[tactic(auto, unfolding(crate::specs::Stmts::device_vector))]
+    #[tactic(auto, unfolding(sy_reading::specs::Stmts::device_vector))]
     pub fn device_vector(&self, tokens: &mut Tokens<'_>, vector: Qualified) -> Result<Tall<Declaration>, Stop>
         requires { Nests self.now.depth (E.pre self.now.expr) (E.post self.now.expr) (S.pre self.now.stmt) (S.post self.now.stmt) }
         ensures { Reads (stmts.device_vector (read_expr self.now.depth) (read_stmt self.now.depth) vector tokens.old.rest.now) result tokens.new.rest.now }
@@ -232,7 +232,7 @@ impl<
         ))
     }
 
-    #[tactic(auto, unfolding(crate::specs::Stmts::thread_vector))]
+    #[tactic(auto, unfolding(sy_reading::specs::Stmts::thread_vector))]
     pub fn thread_vector(&self, tokens: &mut Tokens<'_>, vector: Qualified) -> Result<Tall<Declaration>, Stop>
         requires { Nests self.now.depth (E.pre self.now.expr) (E.post self.now.expr) (S.pre self.now.stmt) (S.post self.now.stmt) }
         ensures { Reads (stmts.thread_vector (read_expr self.now.depth) (read_stmt self.now.depth) vector tokens.old.rest.now) result tokens.new.rest.now }
@@ -244,7 +244,7 @@ impl<
         Ok((Declaration::ThreadVector(vector, name, end), 0))
     }
 
-    #[tactic(auto, unfolding(crate::specs::Stmts::vector))]
+    #[tactic(auto, unfolding(sy_reading::specs::Stmts::vector))]
     pub fn vector(&self, tokens: &mut Tokens<'_>, name: Qualified) -> Result<Tall<Declaration>, Stop>
         requires { Nests self.now.depth (E.pre self.now.expr) (E.post self.now.expr) (S.pre self.now.stmt) (S.post self.now.stmt) }
         ensures { Reads (stmts.vector (read_expr self.now.depth) (read_stmt self.now.depth) name tokens.old.rest.now) result tokens.new.rest.now }
@@ -259,7 +259,7 @@ impl<
         }
     }
 
-    #[tactic(auto, unfolding(crate::specs::Stmts::thread))]
+    #[tactic(auto, unfolding(sy_reading::specs::Stmts::thread))]
     pub fn thread(&self, tokens: &mut Tokens<'_>, name: Qualified) -> Result<Tall<Declaration>, Stop>
         requires { Nests self.now.depth (E.pre self.now.expr) (E.post self.now.expr) (S.pre self.now.stmt) (S.post self.now.stmt) }
         ensures { Reads (stmts.thread (read_expr self.now.depth) (read_stmt self.now.depth) name tokens.old.rest.now) result tokens.new.rest.now }
@@ -276,7 +276,7 @@ impl<
     }
 
     /// A declaration whose type is of the library of C++.
-    #[tactic(auto, unfolding(crate::specs::Stmts::standard_declaration))]
+    #[tactic(auto, unfolding(sy_reading::specs::Stmts::standard_declaration))]
     pub fn standard_declaration(&self, tokens: &mut Tokens<'_>) -> Result<Tall<Declaration>, Stop>
         requires { Nests self.now.depth (E.pre self.now.expr) (E.post self.now.expr) (S.pre self.now.stmt) (S.post self.now.stmt) }
         ensures { Reads (stmts.standard_declaration (read_expr self.now.depth) (read_stmt self.now.depth) tokens.old.rest.now) result tokens.new.rest.now }
@@ -292,7 +292,7 @@ impl<
     }
 
     /// The parts of an expression that is evaluated by itself, with the height of what it holds.
-    #[tactic(auto, unfolding(crate::specs::Stmts::full_parts))]
+    #[tactic(auto, unfolding(sy_reading::specs::Stmts::full_parts))]
     pub fn full_parts(&self, tokens: &mut Tokens<'_>) -> Result<Tall<FullExpression>, Stop>
         requires { Nests self.now.depth (E.pre self.now.expr) (E.post self.now.expr) (S.pre self.now.stmt) (S.post self.now.stmt) }
         ensures { Reads (stmts.full_parts (read_expr self.now.depth) (read_stmt self.now.depth) tokens.old.rest.now) result tokens.new.rest.now }
@@ -311,7 +311,7 @@ impl<
         }
     }
 
-    #[tactic(auto, unfolding(crate::specs::Stmts::full))]
+    #[tactic(auto, unfolding(sy_reading::specs::Stmts::full))]
     pub fn full(&self, tokens: &mut Tokens<'_>) -> Result<Tall<FullExpression>, Stop>
         requires { Nests self.now.depth (E.pre self.now.expr) (E.post self.now.expr) (S.pre self.now.stmt) (S.post self.now.stmt) }
         ensures { Reads (stmts.full (read_expr self.now.depth) (read_stmt self.now.depth) tokens.old.rest.now) result tokens.new.rest.now }
@@ -320,7 +320,7 @@ impl<
         grown(tokens, found, height)
     }
 
-    #[tactic(auto, unfolding(crate::specs::Stmts::expression))]
+    #[tactic(auto, unfolding(sy_reading::specs::Stmts::expression))]
     pub fn expression(&self, tokens: &mut Tokens<'_>) -> Result<Tall<Stmt>, Stop>
         requires { Nests self.now.depth (E.pre self.now.expr) (E.post self.now.expr) (S.pre self.now.stmt) (S.post self.now.stmt) }
         ensures { Reads (stmts.expression (read_expr self.now.depth) (read_stmt self.now.depth) tokens.old.rest.now) result tokens.new.rest.now }
@@ -330,7 +330,7 @@ impl<
         grown(tokens, Stmt::Expression(found, end), height)
     }
 
-    #[tactic(auto, unfolding(crate::specs::Stmts::null))]
+    #[tactic(auto, unfolding(sy_reading::specs::Stmts::null))]
     pub fn null(&self, tokens: &mut Tokens<'_>) -> Result<Tall<Stmt>, Stop>
         requires { Nests self.now.depth (E.pre self.now.expr) (E.post self.now.expr) (S.pre self.now.stmt) (S.post self.now.stmt) }
         ensures { Reads (stmts.null (read_expr self.now.depth) (read_stmt self.now.depth) tokens.old.rest.now) result tokens.new.rest.now }
@@ -339,7 +339,7 @@ impl<
         grown(tokens, Stmt::Null(spot), 0)
     }
 
-    #[tactic(auto, unfolding(crate::specs::Stmts::library_statement))]
+    #[tactic(auto, unfolding(sy_reading::specs::Stmts::library_statement))]
     pub fn library_statement(&self, tokens: &mut Tokens<'_>) -> Result<Tall<Stmt>, Stop>
         requires { Nests self.now.depth (E.pre self.now.expr) (E.post self.now.expr) (S.pre self.now.stmt) (S.post self.now.stmt) }
         ensures { Reads (stmts.library_statement (read_expr self.now.depth) (read_stmt self.now.depth) tokens.old.rest.now) result tokens.new.rest.now }
@@ -353,7 +353,7 @@ impl<
     }
 
     /// A declaration, an expression or `;`.
-    #[tactic(auto, unfolding(crate::specs::Stmts::simple))]
+    #[tactic(auto, unfolding(sy_reading::specs::Stmts::simple))]
     pub fn simple(&self, tokens: &mut Tokens<'_>) -> Result<Tall<Stmt>, Stop>
         requires { Nests self.now.depth (E.pre self.now.expr) (E.post self.now.expr) (S.pre self.now.stmt) (S.post self.now.stmt) }
         ensures { Reads (stmts.simple (read_expr self.now.depth) (read_stmt self.now.depth) tokens.old.rest.now) result tokens.new.rest.now }
@@ -373,7 +373,7 @@ impl<
         }
     }
 
-    #[tactic(auto, unfolding(crate::specs::Stmts::compound))]
+    #[tactic(auto, unfolding(sy_reading::specs::Stmts::compound))]
     pub fn compound(&self, tokens: &mut Tokens<'_>) -> Result<Tall<Stmt>, Stop>
         requires { Nests self.now.depth (E.pre self.now.expr) (E.post self.now.expr) (S.pre self.now.stmt) (S.post self.now.stmt) }
         ensures { Reads (stmts.compound (read_expr self.now.depth) (read_stmt self.now.depth) tokens.old.rest.now) result tokens.new.rest.now }
@@ -382,7 +382,7 @@ impl<
         Ok((Stmt::Compound(block), height))
     }
 
-    #[tactic(auto, unfolding(crate::specs::Stmts::one_printed))]
+    #[tactic(auto, unfolding(sy_reading::specs::Stmts::one_printed))]
     pub fn one_printed(&self, tokens: &mut Tokens<'_>) -> Result<Tall<Printed>, Stop>
         requires { Nests self.now.depth (E.pre self.now.expr) (E.post self.now.expr) (S.pre self.now.stmt) (S.post self.now.stmt) }
         ensures { Reads (stmts.one_printed (read_expr self.now.depth) (read_stmt self.now.depth) tokens.old.rest.now) result tokens.new.rest.now }
@@ -417,7 +417,7 @@ impl<
         Err(Stop::Grammar)
     }
 
-    #[tactic(auto, unfolding(crate::specs::Stmts::print))]
+    #[tactic(auto, unfolding(sy_reading::specs::Stmts::print))]
     pub fn print(&self, tokens: &mut Tokens<'_>) -> Result<Tall<Stmt>, Stop>
         requires { Nests self.now.depth (E.pre self.now.expr) (E.post self.now.expr) (S.pre self.now.stmt) (S.post self.now.stmt) }
         ensures { Reads (stmts.print (read_expr self.now.depth) (read_stmt self.now.depth) tokens.old.rest.now) result tokens.new.rest.now }
@@ -428,7 +428,7 @@ impl<
         grown(tokens, Stmt::Print(name, items, end), height)
     }
 
-    #[tactic(auto, unfolding(crate::specs::Stmts::break_loop))]
+    #[tactic(auto, unfolding(sy_reading::specs::Stmts::break_loop))]
     pub fn break_loop(&self, tokens: &mut Tokens<'_>) -> Result<Tall<Stmt>, Stop>
         requires { Nests self.now.depth (E.pre self.now.expr) (E.post self.now.expr) (S.pre self.now.stmt) (S.post self.now.stmt) }
         ensures { Reads (stmts.break_loop (read_expr self.now.depth) (read_stmt self.now.depth) tokens.old.rest.now) result tokens.new.rest.now }
@@ -438,7 +438,7 @@ impl<
         grown(tokens, Stmt::Break(spot, end), 0)
     }
 
-    #[tactic(auto, unfolding(crate::specs::Stmts::continue_loop))]
+    #[tactic(auto, unfolding(sy_reading::specs::Stmts::continue_loop))]
     pub fn continue_loop(&self, tokens: &mut Tokens<'_>) -> Result<Tall<Stmt>, Stop>
         requires { Nests self.now.depth (E.pre self.now.expr) (E.post self.now.expr) (S.pre self.now.stmt) (S.post self.now.stmt) }
         ensures { Reads (stmts.continue_loop (read_expr self.now.depth) (read_stmt self.now.depth) tokens.old.rest.now) result tokens.new.rest.now }
@@ -448,7 +448,7 @@ impl<
         grown(tokens, Stmt::Continue(spot, end), 0)
     }
 
-    #[tactic(auto, unfolding(crate::specs::Stmts::maybe_expr))]
+    #[tactic(auto, unfolding(sy_reading::specs::Stmts::maybe_expr))]
     pub fn maybe_expr(&self, tokens: &mut Tokens<'_>) -> Result<Tall<Option<Expr>>, Stop>
         requires { Nests self.now.depth (E.pre self.now.expr) (E.post self.now.expr) (S.pre self.now.stmt) (S.post self.now.stmt) }
         ensures { Reads (stmts.maybe_expr (read_expr self.now.depth) (read_stmt self.now.depth) tokens.old.rest.now) result tokens.new.rest.now }
@@ -461,7 +461,7 @@ impl<
         }
     }
 
-    #[tactic(auto, unfolding(crate::specs::Stmts::maybe_full))]
+    #[tactic(auto, unfolding(sy_reading::specs::Stmts::maybe_full))]
     pub fn maybe_full(&self, tokens: &mut Tokens<'_>) -> Result<Tall<Option<FullExpression>>, Stop>
         requires { Nests self.now.depth (E.pre self.now.expr) (E.post self.now.expr) (S.pre self.now.stmt) (S.post self.now.stmt) }
         ensures { Reads (stmts.maybe_full (read_expr self.now.depth) (read_stmt self.now.depth) tokens.old.rest.now) result tokens.new.rest.now }
@@ -474,7 +474,7 @@ impl<
         }
     }
 
-    #[tactic(auto, unfolding(crate::specs::Stmts::return_value))]
+    #[tactic(auto, unfolding(sy_reading::specs::Stmts::return_value))]
     pub fn return_value(&self, tokens: &mut Tokens<'_>) -> Result<Tall<Stmt>, Stop>
         requires { Nests self.now.depth (E.pre self.now.expr) (E.post self.now.expr) (S.pre self.now.stmt) (S.post self.now.stmt) }
         ensures { Reads (stmts.return_value (read_expr self.now.depth) (read_stmt self.now.depth) tokens.old.rest.now) result tokens.new.rest.now }
@@ -485,7 +485,7 @@ impl<
         grown(tokens, Stmt::Return(spot, value, end), height)
     }
 
-    #[tactic(auto, unfolding(crate::specs::Stmts::condition))]
+    #[tactic(auto, unfolding(sy_reading::specs::Stmts::condition))]
     pub fn condition(&self, tokens: &mut Tokens<'_>) -> Result<Tall<Expr>, Stop>
         requires { Nests self.now.depth (E.pre self.now.expr) (E.post self.now.expr) (S.pre self.now.stmt) (S.post self.now.stmt) }
         ensures { Reads (stmts.condition (read_expr self.now.depth) (read_stmt self.now.depth) tokens.old.rest.now) result tokens.new.rest.now }
@@ -496,7 +496,7 @@ impl<
         Ok(found)
     }
 
-    #[tactic(auto, unfolding(crate::specs::Stmts::otherwise))]
+    #[tactic(auto, unfolding(sy_reading::specs::Stmts::otherwise))]
     pub fn otherwise(&self, tokens: &mut Tokens<'_>, spot: Spot, test: Tall<Expr>, yes: Tall<Stmt>) -> Result<Tall<Stmt>, Stop>
         requires { Nests self.now.depth (E.pre self.now.expr) (E.post self.now.expr) (S.pre self.now.stmt) (S.post self.now.stmt) }
         ensures { Reads (stmts.otherwise (read_expr self.now.depth) (read_stmt self.now.depth) spot test yes tokens.old.rest.now) result tokens.new.rest.now }
@@ -521,7 +521,7 @@ impl<
         }
     }
 
-    #[tactic(auto, unfolding(crate::specs::Stmts::branch))]
+    #[tactic(auto, unfolding(sy_reading::specs::Stmts::branch))]
     pub fn branch(&self, tokens: &mut Tokens<'_>) -> Result<Tall<Stmt>, Stop>
         requires { Nests self.now.depth (E.pre self.now.expr) (E.post self.now.expr) (S.pre self.now.stmt) (S.post self.now.stmt) }
         ensures { Reads (stmts.branch (read_expr self.now.depth) (read_stmt self.now.depth) tokens.old.rest.now) result tokens.new.rest.now }
@@ -532,7 +532,7 @@ impl<
         self.otherwise(tokens, spot, test, yes)
     }
 
-    #[tactic(auto, unfolding(crate::specs::Stmts::while_loop))]
+    #[tactic(auto, unfolding(sy_reading::specs::Stmts::while_loop))]
     pub fn while_loop(&self, tokens: &mut Tokens<'_>) -> Result<Tall<Stmt>, Stop>
         requires { Nests self.now.depth (E.pre self.now.expr) (E.post self.now.expr) (S.pre self.now.stmt) (S.post self.now.stmt) }
         ensures { Reads (stmts.while_loop (read_expr self.now.depth) (read_stmt self.now.depth) tokens.old.rest.now) result tokens.new.rest.now }
@@ -544,7 +544,7 @@ impl<
         grown(tokens, Stmt::While(spot, test, body), height.max(tall))
     }
 
-    #[tactic(auto, unfolding(crate::specs::Stmts::do_loop))]
+    #[tactic(auto, unfolding(sy_reading::specs::Stmts::do_loop))]
     pub fn do_loop(&self, tokens: &mut Tokens<'_>) -> Result<Tall<Stmt>, Stop>
         requires { Nests self.now.depth (E.pre self.now.expr) (E.post self.now.expr) (S.pre self.now.stmt) (S.post self.now.stmt) }
         ensures { Reads (stmts.do_loop (read_expr self.now.depth) (read_stmt self.now.depth) tokens.old.rest.now) result tokens.new.rest.now }
@@ -558,7 +558,7 @@ impl<
         grown(tokens, Stmt::Do(spot, body, test, end), tall.max(height))
     }
 
-    #[tactic(auto, unfolding(crate::specs::Stmts::range_for))]
+    #[tactic(auto, unfolding(sy_reading::specs::Stmts::range_for))]
     pub fn range_for(&self, tokens: &mut Tokens<'_>, spot: Spot, header: RangeHeader) -> Result<Tall<Stmt>, Stop>
         requires { Nests self.now.depth (E.pre self.now.expr) (E.post self.now.expr) (S.pre self.now.stmt) (S.post self.now.stmt) }
         ensures { Reads (stmts.range_for (read_expr self.now.depth) (read_stmt self.now.depth) spot header tokens.old.rest.now) result tokens.new.rest.now }
@@ -572,7 +572,7 @@ impl<
         grown(tokens, tree, height)
     }
 
-    #[tactic(auto, unfolding(crate::specs::Stmts::plain_for))]
+    #[tactic(auto, unfolding(sy_reading::specs::Stmts::plain_for))]
     pub fn plain_for(&self, tokens: &mut Tokens<'_>, spot: Spot) -> Result<Tall<Stmt>, Stop>
         requires { Nests self.now.depth (E.pre self.now.expr) (E.post self.now.expr) (S.pre self.now.stmt) (S.post self.now.stmt) }
         ensures { Reads (stmts.plain_for (read_expr self.now.depth) (read_stmt self.now.depth) spot tokens.old.rest.now) result tokens.new.rest.now }
@@ -592,7 +592,7 @@ impl<
         grown(tokens, tree, height)
     }
 
-    #[tactic(auto, unfolding(crate::specs::Stmts::for_loop))]
+    #[tactic(auto, unfolding(sy_reading::specs::Stmts::for_loop))]
     pub fn for_loop(&self, tokens: &mut Tokens<'_>) -> Result<Tall<Stmt>, Stop>
         requires { Nests self.now.depth (E.pre self.now.expr) (E.post self.now.expr) (S.pre self.now.stmt) (S.post self.now.stmt) }
         ensures { Reads (stmts.for_loop (read_expr self.now.depth) (read_stmt self.now.depth) tokens.old.rest.now) result tokens.new.rest.now }
@@ -605,7 +605,7 @@ impl<
         }
     }
 
-    #[tactic(auto, unfolding(crate::specs::Stmts::handler))]
+    #[tactic(auto, unfolding(sy_reading::specs::Stmts::handler))]
     pub fn handler(&self, tokens: &mut Tokens<'_>) -> Result<Lexeme, Stop>
         requires { Nests self.now.depth (E.pre self.now.expr) (E.post self.now.expr) (S.pre self.now.stmt) (S.post self.now.stmt) }
         ensures { Reads (stmts.handler (read_expr self.now.depth) (read_stmt self.now.depth) tokens.old.rest.now) result tokens.new.rest.now }
@@ -620,7 +620,7 @@ impl<
         Ok(name)
     }
 
-    #[tactic(auto, unfolding(crate::specs::Stmts::try_block))]
+    #[tactic(auto, unfolding(sy_reading::specs::Stmts::try_block))]
     pub fn try_block(&self, tokens: &mut Tokens<'_>) -> Result<Tall<Stmt>, Stop>
         requires { Nests self.now.depth (E.pre self.now.expr) (E.post self.now.expr) (S.pre self.now.stmt) (S.post self.now.stmt) }
         ensures { Reads (stmts.try_block (read_expr self.now.depth) (read_stmt self.now.depth) tokens.old.rest.now) result tokens.new.rest.now }
@@ -632,7 +632,7 @@ impl<
         grown(tokens, Stmt::Try(spot, block, name, caught), height.max(tall))
     }
 
-    #[tactic(auto, unfolding(crate::specs::Stmts::repeated))]
+    #[tactic(auto, unfolding(sy_reading::specs::Stmts::repeated))]
     pub fn repeated(&self, tokens: &mut Tokens<'_>) -> Result<Tall<Stmt>, Stop>
         requires { Nests self.now.depth (E.pre self.now.expr) (E.post self.now.expr) (S.pre self.now.stmt) (S.post self.now.stmt) }
         ensures { Reads (stmts.repeated (read_expr self.now.depth) (read_stmt self.now.depth) tokens.old.rest.now) result tokens.new.rest.now }
@@ -650,7 +650,7 @@ impl<
         }
     }
 
-    #[tactic(auto, unfolding(crate::specs::Stmts::reserved))]
+    #[tactic(auto, unfolding(sy_reading::specs::Stmts::reserved))]
     pub fn reserved(&self, tokens: &mut Tokens<'_>) -> Result<Tall<Stmt>, Stop>
         requires { Nests self.now.depth (E.pre self.now.expr) (E.post self.now.expr) (S.pre self.now.stmt) (S.post self.now.stmt) }
         ensures { Reads (stmts.reserved (read_expr self.now.depth) (read_stmt self.now.depth) tokens.old.rest.now) result tokens.new.rest.now }
@@ -668,7 +668,7 @@ impl<
         }
     }
 
-    #[tactic(auto, unfolding(crate::specs::Stmts::one_stmt))]
+    #[tactic(auto, unfolding(sy_reading::specs::Stmts::one_stmt))]
     pub fn one_stmt(&self, tokens: &mut Tokens<'_>) -> Result<Tall<Stmt>, Stop>
         requires { Nests self.now.depth (E.pre self.now.expr) (E.post self.now.expr) (S.pre self.now.stmt) (S.post self.now.stmt) }
         ensures { Reads (stmts.one_stmt (read_expr self.now.depth) (read_stmt self.now.depth) tokens.old.rest.now) result tokens.new.rest.now }

@@ -1,7 +1,7 @@
 //! What the texts of words stand for.
 
 ghost use Rattle.std.specs.Prelude.{◌≡◌};
-ghost use Rattle.sy_pexpr.specs.Tables as spec;
+ghost use Rattle.sy_reading.specs.Tables as spec;
 ghost use Rattle.sy_tree.specs.Words as words;
 
 use sy_num::{BinOp, Kind, UnOp};
@@ -16,7 +16,7 @@ macro_rules! one_of {
     };
 }
 
-#[tactic(auto, unfolding(crate::specs::Tables::unary_of))]
+#[tactic(auto, unfolding(sy_reading::specs::Tables::unary_of))]
 pub fn unary_of(text: &[u8]) -> Option<UnOp>
     ensures { result ≡ spec.unary_of text.now }
 {
@@ -29,7 +29,7 @@ pub fn unary_of(text: &[u8]) -> Option<UnOp>
     }
 }
 
-#[tactic(auto, unfolding(crate::specs::Tables::step_of))]
+#[tactic(auto, unfolding(sy_reading::specs::Tables::step_of))]
 pub fn step_of(text: &[u8]) -> Option<Step>
     ensures { result ≡ spec.step_of text.now }
 {
@@ -40,7 +40,7 @@ pub fn step_of(text: &[u8]) -> Option<Step>
     }
 }
 
-#[tactic(auto, unfolding(crate::specs::Tables::arithmetic_of))]
+#[tactic(auto, unfolding(sy_reading::specs::Tables::arithmetic_of))]
 fn arithmetic_of(text: &[u8]) -> Option<Operator>
     ensures { result ≡ spec.arithmetic_of text.now }
 {
@@ -54,7 +54,7 @@ fn arithmetic_of(text: &[u8]) -> Option<Operator>
     }
 }
 
-#[tactic(auto, unfolding(crate::specs::Tables::comparison_of))]
+#[tactic(auto, unfolding(sy_reading::specs::Tables::comparison_of))]
 fn comparison_of(text: &[u8]) -> Option<Operator>
     ensures { result ≡ spec.comparison_of text.now }
 {
@@ -69,7 +69,7 @@ fn comparison_of(text: &[u8]) -> Option<Operator>
     }
 }
 
-#[tactic(auto, unfolding(crate::specs::Tables::bitwise_of))]
+#[tactic(auto, unfolding(sy_reading::specs::Tables::bitwise_of))]
 fn bitwise_of(text: &[u8]) -> Option<Operator>
     ensures { result ≡ spec.bitwise_of text.now }
 {
@@ -83,7 +83,7 @@ fn bitwise_of(text: &[u8]) -> Option<Operator>
     }
 }
 
-#[tactic(auto, unfolding(crate::specs::Tables::logical_of))]
+#[tactic(auto, unfolding(sy_reading::specs::Tables::logical_of))]
 fn logical_of(text: &[u8]) -> Option<Operator>
     ensures { result ≡ spec.logical_of text.now }
 {
@@ -94,7 +94,7 @@ fn logical_of(text: &[u8]) -> Option<Operator>
     }
 }
 
-#[tactic(auto, unfolding(crate::specs::Tables::assignment_of))]
+#[tactic(auto, unfolding(sy_reading::specs::Tables::assignment_of))]
 pub fn assignment_of(text: &[u8]) -> Option<AssignmentOperator>
     ensures { result ≡ spec.assignment_of text.now }
 {
@@ -114,7 +114,7 @@ pub fn assignment_of(text: &[u8]) -> Option<AssignmentOperator>
     }
 }
 
-#[tactic(auto, unfolding(crate::specs::Tables::fixed_width_of))]
+#[tactic(auto, unfolding(sy_reading::specs::Tables::fixed_width_of))]
 fn fixed_width_of(text: &[u8]) -> Option<Kind>
     ensures { result ≡ spec.fixed_width_of text.now }
 {
@@ -132,7 +132,7 @@ fn fixed_width_of(text: &[u8]) -> Option<Kind>
     }
 }
 
-#[tactic(auto, unfolding(crate::specs::Tables::keyword_of))]
+#[tactic(auto, unfolding(sy_reading::specs::Tables::keyword_of))]
 fn keyword_of(text: &[u8]) -> Option<Kind>
     ensures { result ≡ spec.keyword_of text.now }
 {
@@ -148,7 +148,7 @@ fn keyword_of(text: &[u8]) -> Option<Kind>
     }
 }
 
-#[tactic(auto, unfolding(crate::specs::Tables::tag_of))]
+#[tactic(auto, unfolding(sy_reading::specs::Tables::tag_of))]
 pub fn tag_of(text: &[u8]) -> Option<AccessTag>
     ensures { result ≡ spec.tag_of text.now }
 {
@@ -161,7 +161,7 @@ pub fn tag_of(text: &[u8]) -> Option<AccessTag>
     }
 }
 
-#[tactic(auto, unfolding(crate::specs::Tables::object_of))]
+#[tactic(auto, unfolding(sy_reading::specs::Tables::object_of))]
 pub fn object_of(text: &[u8]) -> Option<FunctionObject>
     ensures { result ≡ spec.object_of text.now }
 {
@@ -177,7 +177,7 @@ pub fn object_of(text: &[u8]) -> Option<FunctionObject>
     }
 }
 
-#[tactic(auto, unfolding(crate::specs::Tables::function_of))]
+#[tactic(auto, unfolding(sy_reading::specs::Tables::function_of))]
 pub fn function_of(text: &[u8]) -> Option<LibraryFunction>
     ensures { result ≡ spec.function_of text.now }
 {
@@ -191,7 +191,7 @@ pub fn function_of(text: &[u8]) -> Option<LibraryFunction>
     }
 }
 
-#[tactic(auto, unfolding(crate::specs::Tables::plain_object_of))]
+#[tactic(auto, unfolding(sy_reading::specs::Tables::plain_object_of))]
 pub fn plain_object_of(name: Qualified, text: &[u8]) -> Option<ObjectType>
     ensures { result ≡ spec.plain_object_of name text.now }
 {
@@ -207,7 +207,7 @@ pub fn plain_object_of(name: Qualified, text: &[u8]) -> Option<ObjectType>
 }
 
 /// The operator with two operands that a mark is.
-#[tactic(auto, unfolding(crate::specs::Tables::operator_of))]
+#[tactic(auto, unfolding(sy_reading::specs::Tables::operator_of))]
 pub fn operator_of(text: &[u8]) -> Option<Operator>
     ensures { result ≡ spec.operator_of text.now }
 {
@@ -215,7 +215,7 @@ pub fn operator_of(text: &[u8]) -> Option<Operator>
 }
 
 /// The type that one word is.
-#[tactic(auto, unfolding(crate::specs::Tables::one_word_of))]
+#[tactic(auto, unfolding(sy_reading::specs::Tables::one_word_of))]
 pub fn one_word_of(text: &[u8]) -> Option<Kind>
     ensures { result ≡ spec.one_word_of text.now }
 {

@@ -229,7 +229,7 @@ unfolding r.maybe_integral
 maybe_integral_is E S from rest t h =
     ⊎_elim (λ p. finish (λ z vs. Optional Integral z from vs) None t from rest p.1 refl)
     (λ p. let i = bind_some (integral from) _ _ p.1 in
-      finish (λ z vs. Optional Integral z from vs) (Some i.0.0) t i.0.1 rest i.2 (integral_is from i.0.1 i.0.0 i.1))
+    finish (λ z vs. Optional Integral z from vs) (Some i.0.0) t i.0.1 rest i.2 (integral_is from i.0.1 i.0.0 i.1))
     (choice (sees row.Mark (codes ">") from) _ _ (t, rest) h)
 
 module _ (E : ℕ → Reader (Tall Expr)) (S : Reader (Tall Stmt))
@@ -263,13 +263,13 @@ module _ (E : ℕ → Reader (Tall Expr)) (S : Reader (Tall Stmt))
   one_argument_is from rest x h =
       ⊎_elim (λ p. braced_is from rest x p.1)
       (λ p. ⊎_elim
-        (λ p. let l = bind_some (r.one_lambda E S from) _ _ p.1 in
-          finish {A = Tall Argument} (λ z vs. OneArgument (Derives z.1) z.0 from vs) (argument.Lambda l.0.0.0, l.0.0.1) x l.0.1 rest l.2
-          (rw (argument.outs-Lambda l.0.0.0) (wl from l.0.1 l.0.0 l.1)))
-        (λ p. let v = bind_some (E 1 from) _ _ p.1 in
-          finish {A = Tall Argument} (λ z vs. OneArgument (Derives z.1) z.0 from vs) (argument.Value v.0.0.0, v.0.0.1) x v.0.1 rest v.2
-          (rw (argument.outs-Value v.0.0.0) (any from v.0.1 v.0.0 v.1)))
-        (choice (sees row.Mark (codes "[") from) _ _ (x, rest) p.1))
+      (λ p. let l = bind_some (r.one_lambda E S from) _ _ p.1 in
+      finish {A = Tall Argument} (λ z vs. OneArgument (Derives z.1) z.0 from vs) (argument.Lambda l.0.0.0, l.0.0.1) x l.0.1 rest l.2
+      (rw (argument.outs-Lambda l.0.0.0) (wl from l.0.1 l.0.0 l.1)))
+      (λ p. let v = bind_some (E 1 from) _ _ p.1 in
+      finish {A = Tall Argument} (λ z vs. OneArgument (Derives z.1) z.0 from vs) (argument.Value v.0.0.0, v.0.0.1) x v.0.1 rest v.2
+      (rw (argument.outs-Value v.0.0.0) (any from v.0.1 v.0.0 v.1)))
+      (choice (sees row.Mark (codes "[") from) _ _ (x, rest) p.1))
       (choice (sees row.Mark (codes "{") from) _ _ (x, rest) h)
 
   pub arguments_stand : (close : List ℕ) (from rest : List Token) (xs : Tall (List Argument)) → r.arguments E S close from ≡ Some (xs, rest) →
@@ -308,10 +308,10 @@ module _ (E : ℕ → Reader (Tall Expr)) (S : Reader (Tall Stmt))
       let n = bind_some (lexed row.Ident from) _ _ h in
       ⊎_elim
       (λ p. let o = bind_some (expect row.Mark (codes "(") n.0.1) _ _ p.1 in
-        let xs = bind_some (maybe_listed (E 1) (codes ")") o.0.1) _ _ o.2 in
-        let c = bind_some (expect row.Mark (codes ")") xs.0.1) _ _ xs.2 in
-        expr_built l xs.0.0.1 _ _ from c.0.1 rest z (tree.outs-Call n.0.0 xs.0.0.0 c.0.0)
-        (n.0.1, o.0.1, xs.0.1, lexed_is _ _ _ _ n.1, expects _ _ _ _ _ o.1, exprs_stand (codes ")") o.0.1 xs.0.1 xs.0.0 xs.1, expected _ _ _ _ _ c.1) c.2)
+      let xs = bind_some (maybe_listed (E 1) (codes ")") o.0.1) _ _ o.2 in
+      let c = bind_some (expect row.Mark (codes ")") xs.0.1) _ _ xs.2 in
+      expr_built l xs.0.0.1 _ _ from c.0.1 rest z (tree.outs-Call n.0.0 xs.0.0.0 c.0.0)
+      (n.0.1, o.0.1, xs.0.1, lexed_is _ _ _ _ n.1, expects _ _ _ _ _ o.1, exprs_stand (codes ")") o.0.1 xs.0.1 xs.0.0 xs.1, expected _ _ _ _ _ c.1) c.2)
       (λ p. expr_built l 0 _ _ from n.0.1 rest z (tree.outs-Name n.0.0) (lexed_is _ _ _ _ n.1) p.1)
       (choice (sees row.Mark (codes "(") n.0.1) _ _ (z, rest) n.2)
 
@@ -341,13 +341,13 @@ module _ (E : ℕ → Reader (Tall Expr)) (S : Reader (Tall Stmt))
   reserved_primary_is l from rest z h =
       ⊎_elim
       (λ p. let s = bind_some (expect row.Reserved (codes "true") from) _ _ p.1 in
-        expr_built l 0 _ _ from s.0.1 rest z (tree.outs-Boolean s.0.0 true) (expected _ _ _ _ _ s.1) s.2)
+      expr_built l 0 _ _ from s.0.1 rest z (tree.outs-Boolean s.0.0 true) (expected _ _ _ _ _ s.1) s.2)
       (λ p. ⊎_elim
-        (λ p. let s = bind_some (expect row.Reserved (codes "false") from) _ _ p.1 in
-          expr_built l 0 _ _ from s.0.1 rest z (tree.outs-Boolean s.0.0 false) (expected _ _ _ _ _ s.1) s.2)
-        (λ p. ⊎_elim (λ p. static_cast_is l from rest z p.1) (λ p. functional_cast_is l from rest z p.1)
-          (choice (sees row.Reserved (codes "static_cast") from) _ _ (z, rest) p.1))
-        (choice (sees row.Reserved (codes "false") from) _ _ (z, rest) p.1))
+      (λ p. let s = bind_some (expect row.Reserved (codes "false") from) _ _ p.1 in
+      expr_built l 0 _ _ from s.0.1 rest z (tree.outs-Boolean s.0.0 false) (expected _ _ _ _ _ s.1) s.2)
+      (λ p. ⊎_elim (λ p. static_cast_is l from rest z p.1) (λ p. functional_cast_is l from rest z p.1)
+      (choice (sees row.Reserved (codes "static_cast") from) _ _ (z, rest) p.1))
+      (choice (sees row.Reserved (codes "false") from) _ _ (z, rest) p.1))
       (choice (sees row.Reserved (codes "true") from) _ _ (z, rest) h)
 
   -- ---- names of the library
@@ -363,9 +363,11 @@ module _ (E : ℕ → Reader (Tall Expr)) (S : Reader (Tall Stmt))
         let b = bind_some (opened t.0.1) _ _ t.2 in
         let xs = bind_some (r.arguments E S (closing_text b.0.0.0) b.0.1) _ _ b.2 in
         let c = bind_some (closed b.0.0.0 xs.0.1) _ _ xs.2 in
-        expr_built l xs.0.0.1 _ _ from c.0.1 rest z (tree.outs-Construct t.0.0 b.0.0.0 b.0.0.1 xs.0.0.0 c.0.0)
-        (t.0.1, object_by_is text q from m there t.0.0 t.0.1 t.1,
-          (b.0.1, xs.0.1, opened_is t.0.1 b.0.1 b.0.0 b.1, arguments_stand (closing_text b.0.0.0) b.0.1 xs.0.1 xs.0.0 xs.1, closed_is b.0.0.0 xs.0.1 c.0.1 c.0.0 c.1)) c.2
+        expr_built l xs.0.0.1 _ _ from c.0.1 rest z (tree.outs-Construct t.0.0 b.0.0.0 b.0.0.1 xs.0.0.0 c.0.0) (
+          t.0.1,
+          object_by_is text q from m there t.0.0 t.0.1 t.1,
+          (b.0.1, xs.0.1, opened_is t.0.1 b.0.1 b.0.0 b.1, arguments_stand (closing_text b.0.0.0) b.0.1 xs.0.1 xs.0.0 xs.1, closed_is b.0.0.0 xs.0.1 c.0.1 c.0.0 c.1),
+        ) c.2
 
     property_is : bytes_eq text (codes "property") ≡ true → r.property E S q m ≡ Some (z, rest) → ExprStands l z from rest
     unfolding r.property r.in_order r.initialize_to_identity mark identifier
@@ -373,19 +375,19 @@ module _ (E : ℕ → Reader (Tall Expr)) (S : Reader (Tall Stmt))
         let a = bind_some (expect row.Mark (codes "::") m) _ _ h in
         ⊎_elim
         (λ p. let n = bind_some (expect row.Ident (codes "queue") a.0.1) _ _ p.1 in
-          let d = bind_some (expect row.Mark (codes "::") n.0.1) _ _ n.2 in
-          let k = bind_some (expect row.Ident (codes "in_order") d.0.1) _ _ d.2 in
-          let b = bind_some (empty_brackets k.0.1) _ _ k.2 in
-          let two = empty_brackets_are k.0.1 b.0.1 b.0.0 b.1 in
-          expr_built l 0 _ _ from b.0.1 rest z (tree.outs-InOrder q b.0.0.0 b.0.0.1)
-          (m, a.0.1, n.0.1, d.0.1, k.0.1, two.0, wrote "property" e, expects _ _ _ _ _ a.1, expects _ _ _ _ _ n.1, expects _ _ _ _ _ d.1, expects _ _ _ _ _ k.1, two.1, two.2) b.2)
+        let d = bind_some (expect row.Mark (codes "::") n.0.1) _ _ n.2 in
+        let k = bind_some (expect row.Ident (codes "in_order") d.0.1) _ _ d.2 in
+        let b = bind_some (empty_brackets k.0.1) _ _ k.2 in
+        let two = empty_brackets_are k.0.1 b.0.1 b.0.0 b.1 in
+        expr_built l 0 _ _ from b.0.1 rest z (tree.outs-InOrder q b.0.0.0 b.0.0.1)
+        (m, a.0.1, n.0.1, d.0.1, k.0.1, two.0, wrote "property" e, expects _ _ _ _ _ a.1, expects _ _ _ _ _ n.1, expects _ _ _ _ _ d.1, expects _ _ _ _ _ k.1, two.1, two.2) b.2)
         (λ p. let n = bind_some (expect row.Ident (codes "reduction") a.0.1) _ _ p.1 in
-          let d = bind_some (expect row.Mark (codes "::") n.0.1) _ _ n.2 in
-          let k = bind_some (expect row.Ident (codes "initialize_to_identity") d.0.1) _ _ d.2 in
-          let b = bind_some (empty_brackets k.0.1) _ _ k.2 in
-          let two = empty_brackets_are k.0.1 b.0.1 b.0.0 b.1 in
-          expr_built l 0 _ _ from b.0.1 rest z (tree.outs-InitializeToIdentity q b.0.0.0 b.0.0.1)
-          (m, a.0.1, n.0.1, d.0.1, k.0.1, two.0, wrote "property" e, expects _ _ _ _ _ a.1, expects _ _ _ _ _ n.1, expects _ _ _ _ _ d.1, expects _ _ _ _ _ k.1, two.1, two.2) b.2)
+        let d = bind_some (expect row.Mark (codes "::") n.0.1) _ _ n.2 in
+        let k = bind_some (expect row.Ident (codes "initialize_to_identity") d.0.1) _ _ d.2 in
+        let b = bind_some (empty_brackets k.0.1) _ _ k.2 in
+        let two = empty_brackets_are k.0.1 b.0.1 b.0.0 b.1 in
+        expr_built l 0 _ _ from b.0.1 rest z (tree.outs-InitializeToIdentity q b.0.0.0 b.0.0.1)
+        (m, a.0.1, n.0.1, d.0.1, k.0.1, two.0, wrote "property" e, expects _ _ _ _ _ a.1, expects _ _ _ _ _ n.1, expects _ _ _ _ _ d.1, expects _ _ _ _ _ k.1, two.1, two.2) b.2)
         (choice (sees row.Ident (codes "queue") a.0.1) _ _ (z, rest) a.2)
 
     group_barrier_is : bytes_eq text (codes "group_barrier") ≡ true → r.group_barrier E S q m ≡ Some (z, rest) → ExprStands l z from rest
@@ -409,9 +411,9 @@ module _ (E : ℕ → Reader (Tall Expr)) (S : Reader (Tall Stmt))
     other_name_is h =
         ⊎_elim (λ p. group_barrier_is p.0 p.1)
         (λ p. ⊎_elim (λ p. property_is p.0 p.1)
-          (λ p. ⊎_elim (λ p. error_code_is p.0 p.1) (λ p. construct_is p.1)
-            (which (bytes_eq text (codes "errc")) _ _ m (z, rest) p.1))
-          (which (bytes_eq text (codes "property")) _ _ m (z, rest) p.1))
+        (λ p. ⊎_elim (λ p. error_code_is p.0 p.1) (λ p. construct_is p.1)
+        (which (bytes_eq text (codes "errc")) _ _ m (z, rest) p.1))
+        (which (bytes_eq text (codes "property")) _ _ m (z, rest) p.1))
         (which (bytes_eq text (codes "group_barrier")) _ _ m (z, rest) h)
 
     function_object_is : (f : FunctionObject) → Sycl (object_spelling f) q from m → r.function_object E S q f m ≡ Some (z, rest) → ExprStands l z from rest
@@ -456,17 +458,17 @@ module _ (E : ℕ → Reader (Tall Expr)) (S : Reader (Tall Stmt))
       ⊎_elim
       (λ p. let x = bind_some (lexed row.Int from) _ _ p.1 in expr_built l 0 _ _ from x.0.1 rest z (tree.outs-Integer x.0.0) (lexed_is _ _ _ _ x.1) x.2)
       (λ p. ⊎_elim
-        (λ p. let x = bind_some (lexed row.Char from) _ _ p.1 in expr_built l 0 _ _ from x.0.1 rest z (tree.outs-Character x.0.0) (lexed_is _ _ _ _ x.1) x.2)
-        (λ p. ⊎_elim (λ p. reserved_primary_is l from rest z p.1)
-          (λ p. ⊎_elim (λ p. parenthesized_is l from rest z p.1)
-            (λ p. ⊎_elim
-              (λ p. let n = bind_some (named (codes "sycl") from) _ _ p.1 in
-                library_by_is n.0.0.1.text (qualified n.0.0) from n.0.1 (library_is from n.0.1 n.0.0 n.1) l rest z n.2)
-              (λ p. named_primary_is l from rest z p.1)
-              (choice (sees_namespace (codes "sycl") from) _ _ (z, rest) p.1))
-            (choice (sees row.Mark (codes "(") from) _ _ (z, rest) p.1))
-          (choice (sees_row row.Reserved from) _ _ (z, rest) p.1))
-        (choice (sees_row row.Char from) _ _ (z, rest) p.1))
+      (λ p. let x = bind_some (lexed row.Char from) _ _ p.1 in expr_built l 0 _ _ from x.0.1 rest z (tree.outs-Character x.0.0) (lexed_is _ _ _ _ x.1) x.2)
+      (λ p. ⊎_elim (λ p. reserved_primary_is l from rest z p.1)
+      (λ p. ⊎_elim (λ p. parenthesized_is l from rest z p.1)
+      (λ p. ⊎_elim
+      (λ p. let n = bind_some (named (codes "sycl") from) _ _ p.1 in
+      library_by_is n.0.0.1.text (qualified n.0.0) from n.0.1 (library_is from n.0.1 n.0.0 n.1) l rest z n.2)
+      (λ p. named_primary_is l from rest z p.1)
+      (choice (sees_namespace (codes "sycl") from) _ _ (z, rest) p.1))
+      (choice (sees row.Mark (codes "(") from) _ _ (z, rest) p.1))
+      (choice (sees_row row.Reserved from) _ _ (z, rest) p.1))
+      (choice (sees_row row.Char from) _ _ (z, rest) p.1))
       (choice (sees_row row.Int from) _ _ (z, rest) h)
 
   -- ---- postfix expressions
@@ -495,10 +497,22 @@ module _ (E : ℕ → Reader (Tall Expr)) (S : Reader (Tall Stmt))
       let c = bind_some (expect row.Mark (codes ")") xs.0.1) _ _ xs.2 in
       let high = max a.1 xs.0.0.1 in
       let all = MaybeListed-map (OneArgument (Derives xs.0.0.1)) (OneArgument (Derives high)) (argument_taller xs.0.0.1 high (omega arith)) xs.0.0.0 p.0.1 xs.0.1
-          (arguments_stand (codes ")") p.0.1 xs.0.1 xs.0.0 xs.1) in
-      expr_built 13 high _ _ from c.0.1 rest z (tree.outs-MemberCall a.0 x.0.0 t.0.0 xs.0.0.0 c.0.0)
-      (mid, o.0.1, x.0.1, t.0.1, p.0.1, xs.0.1, raised 13 a from mid left high (omega arith), expects _ _ _ _ _ o.1, lexed_is _ _ _ _ x.1,
-        maybe_template_argument_is x.0.0 x.0.1 t.0.1 t.0.0 t.1, expects _ _ _ _ _ p.1, all, expected _ _ _ _ _ c.1) c.2
+      (arguments_stand (codes ")") p.0.1 xs.0.1 xs.0.0 xs.1) in
+      expr_built 13 high _ _ from c.0.1 rest z (tree.outs-MemberCall a.0 x.0.0 t.0.0 xs.0.0.0 c.0.0) (
+        mid,
+        o.0.1,
+        x.0.1,
+        t.0.1,
+        p.0.1,
+        xs.0.1,
+        raised 13 a from mid left high (omega arith),
+        expects _ _ _ _ _ o.1,
+        lexed_is _ _ _ _ x.1,
+        maybe_template_argument_is x.0.0 x.0.1 t.0.1 t.0.0 t.1,
+        expects _ _ _ _ _ p.1,
+        all,
+        expected _ _ _ _ _ c.1,
+      ) c.2
 
   stepped_is : (a : Tall Expr) (from mid rest : List Token) (z : Tall Expr) → ExprStands 13 a from mid → r.stepped E S a mid ≡ Some (z, rest) → ExprStands 13 z from rest
   unfolding r.stepped
@@ -515,7 +529,7 @@ module _ (E : ℕ → Reader (Tall Expr)) (S : Reader (Tall Stmt))
   postfix_is a from mid rest z left h =
       ⊎_elim (λ p. subscript_is a from mid rest z left p.1)
       (λ p. ⊎_elim (λ p. member_is a from mid rest z left p.1) (λ p. stepped_is a from mid rest z left p.1)
-        (choice (sees row.Mark (codes ".") mid) _ _ (z, rest) p.1))
+      (choice (sees row.Mark (codes ".") mid) _ _ (z, rest) p.1))
       (choice (sees row.Mark (codes "[") mid) _ _ (z, rest) h)
 
   postfixes_are : (k : ℕ) (a : Tall Expr) (from mid rest : List Token) (z : Tall Expr) → ExprStands 13 a from mid → r.postfixes E S k a mid ≡ Some (z, rest) →
@@ -525,7 +539,7 @@ module _ (E : ℕ → Reader (Tall Expr)) (S : Reader (Tall Stmt))
   postfixes_are (suc k) a from mid rest z left h =
       ⊎_elim
       (λ p. let same = one {Y = Tall Expr × List Token} (a, mid) (z, rest) p.1 in
-        (subst (λ q. ExprStands 13 q.0 from q.1) same left, subst (λ q. r.binds q.1 < 13) same (ltb-true (r.binds mid) 13 p.0)))
+      (subst (λ q. ExprStands 13 q.0 from q.1) same left, subst (λ q. r.binds q.1 < 13) same (ltb-true (r.binds mid) 13 p.0)))
       (λ p. let b = bind_some (r.postfix E S a mid) _ _ p.1 in postfixes_are k b.0.0 from b.0.1 rest z (postfix_is a from mid b.0.1 b.0.0 left b.1) b.2)
       (choice (nat_lt (r.binds mid) 13) _ _ (z, rest) h)
 
@@ -554,9 +568,11 @@ module _ (E : ℕ → Reader (Tall Expr)) (S : Reader (Tall Stmt))
       let a = bind_some (E 12 c.0.1) _ _ c.2 in
       let w = we 12 c.0.1 a.0.1 a.0.0 (omega arith) (omega arith) a.1 in
       let g = grew _ _ _ z rest a.2 in
-      let low : r.binds a.0.1 ≤ 12 = omega (arith, w.1) in
-      (subst (λ us. r.binds us ≤ 12) (sym g.2) low, expr_built 12 a.0.0.1 _ _ from a.0.1 rest z (tree.outs-Cast o.0.0 t.0.0 a.0.0.0)
-        (omega arith, (o.0.1, t.0.1, c.0.1, expected _ _ _ _ _ o.1, integral_is o.0.1 t.0.1 t.0.0 t.1, expects _ _ _ _ _ c.1, w.0.0)) a.2)
+      let low : r.binds a.0.1 ≤ 12 = omega (arith, w.1) in (
+        subst (λ us. r.binds us ≤ 12) (sym g.2) low,
+        expr_built 12 a.0.0.1 _ _ from a.0.1 rest z (tree.outs-Cast o.0.0 t.0.0 a.0.0.0)
+            (omega arith, (o.0.1, t.0.1, c.0.1, expected _ _ _ _ _ o.1, integral_is o.0.1 t.0.1 t.0.0 t.1, expects _ _ _ _ _ c.1, w.0.0)) a.2,
+      )
 
   prefix_step_is : (o : Step) (from rest : List Token) (z : Tall Expr) → step_of (mark_text from) ≡ Some o → r.prefix_step E S o from ≡ Some (z, rest) → Prefixed z from rest
   unfolding r.prefix_step
@@ -565,9 +581,11 @@ module _ (E : ℕ → Reader (Tall Expr)) (S : Reader (Tall Stmt))
       let a = bind_some (E 12 s.0.1) _ _ s.2 in
       let w = we 12 s.0.1 a.0.1 a.0.0 (omega arith) (omega arith) a.1 in
       let g = grew _ _ _ z rest a.2 in
-      let low : r.binds a.0.1 ≤ 12 = omega (arith, w.1) in
-      (subst (λ us. r.binds us ≤ 12) (sym g.2) low, expr_built 12 a.0.0.1 _ _ from a.0.1 rest z (tree.outs-Prefix s.0.0 o a.0.0.0)
-        (omega arith, (s.0.1, step_there o from s.0.1 s.0.0 is s.1, w.0.0)) a.2)
+      let low : r.binds a.0.1 ≤ 12 = omega (arith, w.1) in (
+        subst (λ us. r.binds us ≤ 12) (sym g.2) low,
+        expr_built 12 a.0.0.1 _ _ from a.0.1 rest z (tree.outs-Prefix s.0.0 o a.0.0.0)
+            (omega arith, (s.0.1, step_there o from s.0.1 s.0.0 is s.1, w.0.0)) a.2,
+      )
 
   unary_is : (o : UnOp) (from rest : List Token) (z : Tall Expr) → unary_of (mark_text from) ≡ Some o → r.unary E S o from ≡ Some (z, rest) → Prefixed z from rest
   unfolding r.unary
@@ -576,9 +594,11 @@ module _ (E : ℕ → Reader (Tall Expr)) (S : Reader (Tall Stmt))
       let a = bind_some (E 12 s.0.1) _ _ s.2 in
       let w = we 12 s.0.1 a.0.1 a.0.0 (omega arith) (omega arith) a.1 in
       let g = grew _ _ _ z rest a.2 in
-      let low : r.binds a.0.1 ≤ 12 = omega (arith, w.1) in
-      (subst (λ us. r.binds us ≤ 12) (sym g.2) low, expr_built 12 a.0.0.1 _ _ from a.0.1 rest z (tree.outs-Unary s.0.0 o a.0.0.0)
-        (omega arith, (s.0.1, unary_there o from s.0.1 s.0.0 is s.1, w.0.0)) a.2)
+      let low : r.binds a.0.1 ≤ 12 = omega (arith, w.1) in (
+        subst (λ us. r.binds us ≤ 12) (sym g.2) low,
+        expr_built 12 a.0.0.1 _ _ from a.0.1 rest z (tree.outs-Unary s.0.0 o a.0.0.0)
+            (omega arith, (s.0.1, unary_there o from s.0.1 s.0.0 is s.1, w.0.0)) a.2,
+      )
 
   cast_or_postfix_is : (from rest : List Token) (z : Tall Expr) → r.cast_or_postfix E S from ≡ Some (z, rest) → Prefixed z from rest
   unfolding r.cast_or_postfix
@@ -614,9 +634,14 @@ module _ (E : ℕ → Reader (Tall Expr)) (S : Reader (Tall Stmt))
       let g = grew _ _ _ z rest b.2 in
       let high = max a.1 b.0.0.1 in
       let right = child (level o + 1) s.0.1 b.0.1 b.0.0 (omega arith) (omega (arith, bounds)) b.1 high (omega arith) in
-      let low : r.binds rest < level o + 1 = subst (λ us. r.binds us < level o + 1) (sym g.2) w.1 in
-      (level o, le, omega (arith, low), λ q. omega (arith, bounds), expr_built (level o) high _ _ from b.0.1 rest z (tree.outs-Binary a.0 s.0.0 o b.0.0.0)
-        (omega arith, (mid, s.0.1, raised (level o) a from mid left high (omega arith), operator_there o mid s.0.1 s.0.0 is s.1, right)) b.2)
+      let low : r.binds rest < level o + 1 = subst (λ us. r.binds us < level o + 1) (sym g.2) w.1 in (
+        level o,
+        le,
+        omega (arith, low),
+        λ q. omega (arith, bounds),
+        expr_built (level o) high _ _ from b.0.1 rest z (tree.outs-Binary a.0 s.0.0 o b.0.0.0)
+            (omega arith, (mid, s.0.1, raised (level o) a from mid left high (omega arith), operator_there o mid s.0.1 s.0.0 is s.1, right)) b.2,
+      )
 
   conditional_is : (l : ℕ) (a : Tall Expr) (from mid rest : List Token) (z : Tall Expr) → l ≤ 1 → 1 ≤ l → ExprStands 2 a from mid → r.conditional E S a mid ≡ Some (z, rest) →
       Reached l z from rest
@@ -629,10 +654,26 @@ module _ (E : ℕ → Reader (Tall Expr)) (S : Reader (Tall Stmt))
       let g = grew _ _ _ z rest d.2 in
       let w = we 1 c.0.1 d.0.1 d.0.0 (omega arith) (omega arith) d.1 in
       let high = max a.1 (max b.0.0.1 d.0.0.1) in
-      let low : r.binds rest < 1 = subst (λ us. r.binds us < 1) (sym g.2) w.1 in
-      (1, le, omega (arith, low), λ q. absurd (omega (arith, q, low)), expr_built 1 high _ _ from d.0.1 rest z (tree.outs-Conditional a.0 s.0.0 b.0.0.0 d.0.0.0)
-        (omega arith, (mid, s.0.1, b.0.1, c.0.1, raised 2 a from mid left high (omega arith), expected _ _ _ _ _ s.1,
-          child 1 s.0.1 b.0.1 b.0.0 (omega arith) (omega arith) b.1 high (omega arith), expects _ _ _ _ _ c.1, child 1 c.0.1 d.0.1 d.0.0 (omega arith) (omega arith) d.1 high (omega arith))) d.2)
+      let low : r.binds rest < 1 = subst (λ us. r.binds us < 1) (sym g.2) w.1 in (
+        1,
+        le,
+        omega (arith, low),
+        λ q. absurd (omega (arith, q, low)),
+        expr_built 1 high _ _ from d.0.1 rest z (tree.outs-Conditional a.0 s.0.0 b.0.0.0 d.0.0.0) (
+          omega arith,
+          (
+            mid,
+            s.0.1,
+            b.0.1,
+            c.0.1,
+            raised 2 a from mid left high (omega arith),
+            expected _ _ _ _ _ s.1,
+            child 1 s.0.1 b.0.1 b.0.0 (omega arith) (omega arith) b.1 high (omega arith),
+            expects _ _ _ _ _ c.1,
+            child 1 c.0.1 d.0.1 d.0.0 (omega arith) (omega arith) d.1 high (omega arith),
+          ),
+        ) d.2,
+      )
 
   operation_is : (l : ℕ) (a : Tall Expr) (from mid rest : List Token) (z : Tall Expr) → 1 ≤ l → l ≤ r.binds mid → Reached l a from mid → r.operation E S a mid ≡ Some (z, rest) →
       Reached l z from rest
@@ -640,7 +681,7 @@ module _ (E : ℕ → Reader (Tall Expr)) (S : Reader (Tall Stmt))
   operation_is l a from mid rest z some le left h =
       ⊎_elim
       (λ p. let one_ : r.binds mid ≡ 1 = question_binds mid p.0 in
-        conditional_is l a from mid rest z (omega (arith, one_, le)) some (looser left.0 2 (left.3 one_) a from mid left.4) p.1)
+      conditional_is l a from mid rest z (omega (arith, one_, le)) some (looser left.0 2 (left.3 one_) a from mid left.4) p.1)
       (λ p. by (operator_of (mark_text mid)) refl p.1)
       (choice (sees row.Mark (codes "?") mid) _ _ (z, rest) h)
     where
@@ -656,9 +697,9 @@ module _ (E : ℕ → Reader (Tall Expr)) (S : Reader (Tall Stmt))
   climb_is (suc k) l a from mid rest z some left h =
       ⊎_elim
       (λ p. let same = one {Y = Tall Expr × List Token} (a, mid) (z, rest) p.1 in
-        (subst (λ q. ExprStands l q.0 from q.1) same (looser left.0 l left.1 a from mid left.4), subst (λ q. r.binds q.1 < l) same (ltb-true (r.binds mid) l p.0)))
+      (subst (λ q. ExprStands l q.0 from q.1) same (looser left.0 l left.1 a from mid left.4), subst (λ q. r.binds q.1 < l) same (ltb-true (r.binds mid) l p.0)))
       (λ p. let b = bind_some (r.operation E S a mid) _ _ p.1 in
-        climb_is k l b.0.0 from b.0.1 rest z some (operation_is l a from mid b.0.1 b.0.0 some (ltb-false (r.binds mid) l p.0) left b.1) b.2)
+      climb_is k l b.0.0 from b.0.1 rest z some (operation_is l a from mid b.0.1 b.0.0 some (ltb-false (r.binds mid) l p.0) left b.1) b.2)
       (choice (nat_lt (r.binds mid) l) _ _ (z, rest) h)
 
   pub chain_is : (l : ℕ) → 1 ≤ l → l ≤ 12 → (from rest : List Token) (z : Tall Expr) → r.chain E S l from ≡ Some (z, rest) → ExprSound l z from rest

@@ -43,9 +43,9 @@ unfolding r.opened mark
 opened_is from rest b h =
     ⊎_elim
     (λ p. let s = bind_some (expect row.Mark (codes "(") from) _ _ p.1 in
-      finish {A = Brackets × Spot} (λ q us. At (mark (opening q.0)) q.1 from us) (brackets.Parentheses, s.0.0) b s.0.1 rest s.2 (expected _ _ _ _ _ s.1))
+    finish {A = Brackets × Spot} (λ q us. At (mark (opening q.0)) q.1 from us) (brackets.Parentheses, s.0.0) b s.0.1 rest s.2 (expected _ _ _ _ _ s.1))
     (λ p. let s = bind_some (expect row.Mark (codes "{") from) _ _ p.1 in
-      finish {A = Brackets × Spot} (λ q us. At (mark (opening q.0)) q.1 from us) (brackets.Braces, s.0.0) b s.0.1 rest s.2 (expected _ _ _ _ _ s.1))
+    finish {A = Brackets × Spot} (λ q us. At (mark (opening q.0)) q.1 from us) (brackets.Braces, s.0.0) b s.0.1 rest s.2 (expected _ _ _ _ _ s.1))
     (choice (sees row.Mark (codes "(") from) _ _ (b, rest) h)
 
 pub closed_is : (b : Brackets) (from rest : List Token) (e : Spot) → r.closed b from ≡ Some (e, rest) → At (mark (closing b)) e from rest
@@ -147,11 +147,11 @@ module _ (s : Spot) (from : List Token) where
       maybe_word "char" m (λ b us. (if b then pure kind.UChar else long_or_short) us ≡ Some (k, rest) → Kinded k s from rest)
       (λ us c h. finish (λ z vs. Kinded z s from vs) kind.UChar k us rest h (inl (m, c.0, at, c.1)))
       (λ h. maybe_word "long" m (λ b us. (if b then r.long_kind kind.ULong kind.ULLong else short_or_none) us ≡ Some (k, rest) → Kinded k s from rest)
-        (λ us l h. long_is kind.ULong kind.ULLong k us rest (inl (m, l.0, at, l.1)) (λ vs i. inr (inl (m, l.0, at, (us, i.0, l.1, i.1))))
-          (λ vs l2. inl (m, l.0, at, (us, l2.0, l.1, l2.1))) (λ vs ws l2 i. inr (inl (m, l.0, at, (us, l2.0, l.1, (vs, i.0, l2.1, i.1))))) h)
-        (λ h. maybe_word "short" m (λ b us. r.eat_int (if b then kind.UShort else kind.UInt) us ≡ Some (k, rest) → Kinded k s from rest)
-          (λ us c h. int_is kind.UShort k us rest (inl (m, c.0, at, c.1)) (λ vs i. inr (inl (m, c.0, at, (us, i.0, c.1, i.1)))) h)
-          (λ h. int_is kind.UInt k m rest (inl at) (λ us i. inr (inl (m, i.0, at, i.1))) h) h) h) h
+      (λ us l h. long_is kind.ULong kind.ULLong k us rest (inl (m, l.0, at, l.1)) (λ vs i. inr (inl (m, l.0, at, (us, i.0, l.1, i.1))))
+      (λ vs l2. inl (m, l.0, at, (us, l2.0, l.1, l2.1))) (λ vs ws l2 i. inr (inl (m, l.0, at, (us, l2.0, l.1, (vs, i.0, l2.1, i.1))))) h)
+      (λ h. maybe_word "short" m (λ b us. r.eat_int (if b then kind.UShort else kind.UInt) us ≡ Some (k, rest) → Kinded k s from rest)
+      (λ us c h. int_is kind.UShort k us rest (inl (m, c.0, at, c.1)) (λ vs i. inr (inl (m, c.0, at, (us, i.0, c.1, i.1)))) h)
+      (λ h. int_is kind.UInt k m rest (inl at) (λ us i. inr (inl (m, i.0, at, i.1))) h) h) h) h
     where
       short_or_none : Reader Kind
       short_or_none = eat row.Reserved (codes "short") >>= (λ short. r.eat_int (if short then kind.UShort else kind.UInt))
@@ -168,13 +168,13 @@ module _ (s : Spot) (from : List Token) where
   kind_by_is text k m rest at h =
       ⊎_elim (λ p. signed_is k m rest (said text s from m at "signed" p.0) p.1)
       (λ p. ⊎_elim (λ p. unsigned_is k m rest (said text s from m at "unsigned" p.0) p.1)
-        (λ p. ⊎_elim (λ p. let w = said text s from m at "short" p.0 in int_is kind.Short k m rest (inl w) (λ us i. inr (inl (m, i.0, w, i.1))) p.1)
-          (λ p. ⊎_elim (λ p. let w = said text s from m at "long" p.0 in
-              long_is kind.Long kind.LLong k m rest (inl w) (λ us i. inr (inl (m, i.0, w, i.1))) (λ us l. inl (m, l.0, w, l.1)) (λ us vs l i. inr (inl (m, l.0, w, (us, i.0, l.1, i.1)))) p.1)
-            (λ p. word_kind_is (one_word_of text) k m rest (λ j is. one_word_is text s from m at j is) p.1)
-            (which (bytes_eq text (codes "long")) _ _ m (k, rest) p.1))
-          (which (bytes_eq text (codes "short")) _ _ m (k, rest) p.1))
-        (which (bytes_eq text (codes "unsigned")) _ _ m (k, rest) p.1))
+      (λ p. ⊎_elim (λ p. let w = said text s from m at "short" p.0 in int_is kind.Short k m rest (inl w) (λ us i. inr (inl (m, i.0, w, i.1))) p.1)
+      (λ p. ⊎_elim (λ p. let w = said text s from m at "long" p.0 in
+      long_is kind.Long kind.LLong k m rest (inl w) (λ us i. inr (inl (m, i.0, w, i.1))) (λ us l. inl (m, l.0, w, l.1)) (λ us vs l i. inr (inl (m, l.0, w, (us, i.0, l.1, i.1)))) p.1)
+      (λ p. word_kind_is (one_word_of text) k m rest (λ j is. one_word_is text s from m at j is) p.1)
+      (which (bytes_eq text (codes "long")) _ _ m (k, rest) p.1))
+      (which (bytes_eq text (codes "short")) _ _ m (k, rest) p.1))
+      (which (bytes_eq text (codes "unsigned")) _ _ m (k, rest) p.1))
       (which (bytes_eq text (codes "signed")) _ _ m (k, rest) h)
 
 pub integral_is : (from rest : List Token) (t : IntegerType) → r.integral from ≡ Some (t, rest) → Integral t from rest
@@ -192,9 +192,13 @@ one_word_integral_is from rest t h =
     let k = bind_some (r.word_kind (one_word_of x.0.0.text) x.0.1) _ _ x.2 in
     let there = lexed_is row.Reserved from x.0.1 x.0.0 x.1 in
     let found = word_kind_is x.0.0.spot from (one_word_of x.0.0.text) k.0.0 x.0.1 k.0.1 (λ j is. one_word_is x.0.0.text x.0.0.spot from x.0.1 there j is) k.1 in
-    finish (λ z vs. OneWordIntegral z from vs) (record { spot = x.0.0.spot; kind = k.0.0 }) t k.0.1 rest k.2
-    (found, (record { word = word row.Reserved x.0.0.text; from = there.0; to = there.1; spot = x.0.0.spot },
-      there.2 ∙ ap (λ us. record { word = word row.Reserved x.0.0.text; from = there.0; to = there.1; spot = x.0.0.spot } ∷ us) (untaken (one_word_of x.0.0.text) k.0.0 x.0.1 k.0.1 k.1)))
+    finish (λ z vs. OneWordIntegral z from vs) (record { spot = x.0.0.spot; kind = k.0.0 }) t k.0.1 rest k.2 (
+      found,
+      (
+        record { word = word row.Reserved x.0.0.text; from = there.0; to = there.1; spot = x.0.0.spot },
+        there.2 ∙ ap (λ us. record { word = word row.Reserved x.0.0.text; from = there.0; to = there.1; spot = x.0.0.spot } ∷ us) (untaken (one_word_of x.0.0.text) k.0.0 x.0.1 k.0.1 k.1),
+      ),
+    )
   where
     untaken : (o : Option Kind) (k : Kind) (m rest : List Token) → r.word_kind o m ≡ Some (k, rest) → m ≡ rest
     untaken None k m rest h = absurd cc
@@ -205,9 +209,9 @@ unfolding r.type_specifier keyword
 type_specifier_is from rest t h =
     ⊎_elim
     (λ p. let s = bind_some (expect row.Reserved (codes "auto") from) _ _ p.1 in
-      finish (λ z vs. TypeSpecified z from vs) (specifier.Auto s.0.0) t s.0.1 rest s.2 (expected _ _ _ _ _ s.1))
+    finish (λ z vs. TypeSpecified z from vs) (specifier.Auto s.0.0) t s.0.1 rest s.2 (expected _ _ _ _ _ s.1))
     (λ p. let i = bind_some (r.integral from) _ _ p.1 in
-      finish (λ z vs. TypeSpecified z from vs) (specifier.Integer i.0.0) t i.0.1 rest i.2 (integral_is from i.0.1 i.0.0 i.1))
+    finish (λ z vs. TypeSpecified z from vs) (specifier.Integer i.0.0) t i.0.1 rest i.2 (integral_is from i.0.1 i.0.0 i.1))
     (choice (sees row.Reserved (codes "auto") from) _ _ (t, rest) h)
 
 pub const_specifier_is : (from rest : List Token) (c : Option ConstSpecifier) → r.const_specifier from ≡ Some (c, rest) → Optional ConstSpecified c from rest
@@ -215,12 +219,12 @@ unfolding r.const_specifier keyword
 const_specifier_is from rest c h =
     ⊎_elim
     (λ p. let s = bind_some (expect row.Reserved (codes "const") from) _ _ p.1 in
-      finish (λ z vs. Optional ConstSpecified z from vs) (Some (const.Const s.0.0)) c s.0.1 rest s.2 (expected _ _ _ _ _ s.1))
+    finish (λ z vs. Optional ConstSpecified z from vs) (Some (const.Const s.0.0)) c s.0.1 rest s.2 (expected _ _ _ _ _ s.1))
     (λ p. ⊎_elim
-      (λ p. let s = bind_some (expect row.Reserved (codes "constexpr") from) _ _ p.1 in
-        finish (λ z vs. Optional ConstSpecified z from vs) (Some (const.Constexpr s.0.0)) c s.0.1 rest s.2 (expected _ _ _ _ _ s.1))
-      (λ p. finish (λ z vs. Optional ConstSpecified z from vs) None c from rest p.1 refl)
-      (choice (sees row.Reserved (codes "constexpr") from) _ _ (c, rest) p.1))
+    (λ p. let s = bind_some (expect row.Reserved (codes "constexpr") from) _ _ p.1 in
+    finish (λ z vs. Optional ConstSpecified z from vs) (Some (const.Constexpr s.0.0)) c s.0.1 rest s.2 (expected _ _ _ _ _ s.1))
+    (λ p. finish (λ z vs. Optional ConstSpecified z from vs) None c from rest p.1 refl)
+    (choice (sees row.Reserved (codes "constexpr") from) _ _ (c, rest) p.1))
     (choice (sees row.Reserved (codes "const") from) _ _ (c, rest) h)
 
 -- ---- types of the library
@@ -238,7 +242,7 @@ unfolding r.maybe_dimensions
 maybe_dimensions_are from rest x h =
     ⊎_elim
     (λ p. let d = bind_some (r.dimensions from) _ _ p.1 in
-      finish (λ z vs. Optional Dimensions z from vs) (Some d.0.0) x d.0.1 rest d.2 (dimensions_are from d.0.1 d.0.0 d.1))
+    finish (λ z vs. Optional Dimensions z from vs) (Some d.0.0) x d.0.1 rest d.2 (dimensions_are from d.0.1 d.0.0 d.1))
     (λ p. finish (λ z vs. Optional Dimensions z from vs) None x from rest p.1 refl)
     (choice (sees row.Mark (codes "<") from) _ _ (x, rest) h)
 
@@ -247,7 +251,7 @@ unfolding r.comma_dimensions mark
 comma_dimensions_are from rest x h =
     maybe_that row.Mark (codes ",") from (λ b us. (if b then (lexed row.Int >>= (λ x. pure (Some x))) else pure None) us ≡ Some (x, rest) → Optional CommaDimensions x from rest)
     (λ us c h. let n = bind_some (lexed row.Int us) _ _ h in
-      finish (λ z vs. Optional CommaDimensions z from vs) (Some n.0.0) x n.0.1 rest n.2 (us, c, lexed_is _ _ _ _ n.1))
+    finish (λ z vs. Optional CommaDimensions z from vs) (Some n.0.0) x n.0.1 rest n.2 (us, c, lexed_is _ _ _ _ n.1))
     (λ h. finish (λ z vs. Optional CommaDimensions z from vs) None x from rest h refl) h
 
 elements_are : (from rest : List Token) (x : ElementArguments) → r.elements from ≡ Some (x, rest) → Elements x from rest
@@ -265,7 +269,7 @@ unfolding r.maybe_elements
 maybe_elements_are from rest x h =
     ⊎_elim
     (λ p. let d = bind_some (r.elements from) _ _ p.1 in
-      finish (λ z vs. Optional Elements z from vs) (Some d.0.0) x d.0.1 rest d.2 (elements_are from d.0.1 d.0.0 d.1))
+    finish (λ z vs. Optional Elements z from vs) (Some d.0.0) x d.0.1 rest d.2 (elements_are from d.0.1 d.0.0 d.1))
     (λ p. finish (λ z vs. Optional Elements z from vs) None x from rest p.1 refl)
     (choice (sees row.Mark (codes "<") from) _ _ (x, rest) h)
 
@@ -304,15 +308,15 @@ module _ (text : List ℕ) (q : Qualified) (from m : List Token) (there : Librar
   unfolding r.template_object
   template_object_is t rest h =
       ⊎_elim (λ p. let x = bind_some (r.maybe_elements m) _ _ p.1 in
-        finish (λ z vs. Object z from vs) (object.Buffer q x.0.0) t x.0.1 rest x.2 (m, name "buffer" p.0, maybe_elements_are m x.0.1 x.0.0 x.1))
+      finish (λ z vs. Object z from vs) (object.Buffer q x.0.0) t x.0.1 rest x.2 (m, name "buffer" p.0, maybe_elements_are m x.0.1 x.0.0 x.1))
       (λ p. ⊎_elim (λ p. let x = bind_some (r.elements m) _ _ p.1 in
-        finish (λ z vs. Object z from vs) (object.LocalAccessor q x.0.0) t x.0.1 rest x.2 (m, name "local_accessor" p.0, elements_are m x.0.1 x.0.0 x.1))
+      finish (λ z vs. Object z from vs) (object.LocalAccessor q x.0.0) t x.0.1 rest x.2 (m, name "local_accessor" p.0, elements_are m x.0.1 x.0.0 x.1))
       (λ p. ⊎_elim (λ p. let x = bind_some (r.maybe_dimensions m) _ _ p.1 in
-        finish (λ z vs. Object z from vs) (object.Range q x.0.0) t x.0.1 rest x.2 (m, name "range" p.0, maybe_dimensions_are m x.0.1 x.0.0 x.1))
+      finish (λ z vs. Object z from vs) (object.Range q x.0.0) t x.0.1 rest x.2 (m, name "range" p.0, maybe_dimensions_are m x.0.1 x.0.0 x.1))
       (λ p. ⊎_elim (λ p. let x = bind_some (r.maybe_dimensions m) _ _ p.1 in
-        finish (λ z vs. Object z from vs) (object.Id q x.0.0) t x.0.1 rest x.2 (m, name "id" p.0, maybe_dimensions_are m x.0.1 x.0.0 x.1))
+      finish (λ z vs. Object z from vs) (object.Id q x.0.0) t x.0.1 rest x.2 (m, name "id" p.0, maybe_dimensions_are m x.0.1 x.0.0 x.1))
       (λ p. ⊎_elim (λ p. let x = bind_some (r.maybe_dimensions m) _ _ p.1 in
-        finish (λ z vs. Object z from vs) (object.NdRange q x.0.0) t x.0.1 rest x.2 (m, name "nd_range" p.0, maybe_dimensions_are m x.0.1 x.0.0 x.1))
+      finish (λ z vs. Object z from vs) (object.NdRange q x.0.0) t x.0.1 rest x.2 (m, name "nd_range" p.0, maybe_dimensions_are m x.0.1 x.0.0 x.1))
       (λ p. absurd (let clash : None ≡ Some (t, rest) = p.1 in cc))
       (which (bytes_eq text (codes "nd_range")) _ _ m (t, rest) p.1))
       (which (bytes_eq text (codes "id")) _ _ m (t, rest) p.1))
@@ -331,7 +335,7 @@ module _ (text : List ℕ) (q : Qualified) (from m : List Token) (there : Librar
 pub object_type_is : (from rest : List Token) (t : ObjectType) → r.object_type from ≡ Some (t, rest) → Object t from rest
 unfolding r.object_type
 object_type_is from rest t h =
-    let p = bind_some (named (codes "sycl")  from) _ _ h in
+    let p = bind_some (named (codes "sycl") from) _ _ h in
     object_by_is p.0.0.1.text (qualified p.0.0) from p.0.1 (library_is from p.0.1 p.0.0 p.1) t rest p.2
 
 -- ---- lambdas
@@ -349,7 +353,7 @@ reference_capture_is from rest x h =
     let s = bind_some (expect row.Mark (codes "&") from) _ _ h in
     ⊎_elim
     (λ p. let n = bind_some (lexed row.Ident s.0.1) _ _ p.1 in
-      finish {A = Tall Capture} (λ z vs. Captured z.0 from vs) (capture.Reference s.0.0 n.0.0, 0) x n.0.1 rest n.2 (s.0.1, expected _ _ _ _ _ s.1, lexed_is _ _ _ _ n.1))
+    finish {A = Tall Capture} (λ z vs. Captured z.0 from vs) (capture.Reference s.0.0 n.0.0, 0) x n.0.1 rest n.2 (s.0.1, expected _ _ _ _ _ s.1, lexed_is _ _ _ _ n.1))
     (λ p. finish {A = Tall Capture} (λ z vs. Captured z.0 from vs) (capture.DefaultReference s.0.0, 0) x s.0.1 rest p.1 (expected _ _ _ _ _ s.1))
     (choice (sees_row row.Ident s.0.1) _ _ (x, rest) s.2)
 
@@ -358,11 +362,11 @@ unfolding r.one_capture mark
 one_capture_is from rest x h =
     ⊎_elim (λ p. reference_capture_is from rest x p.1)
     (λ p. ⊎_elim
-      (λ p. let s = bind_some (expect row.Mark (codes "=") from) _ _ p.1 in
-        finish {A = Tall Capture} (λ z vs. Captured z.0 from vs) (capture.DefaultCopy s.0.0, 0) x s.0.1 rest s.2 (expected _ _ _ _ _ s.1))
-      (λ p. let n = bind_some (lexed row.Ident from) _ _ p.1 in
-        finish {A = Tall Capture} (λ z vs. Captured z.0 from vs) (capture.Copy n.0.0, 0) x n.0.1 rest n.2 (lexed_is _ _ _ _ n.1))
-      (choice (sees row.Mark (codes "=") from) _ _ (x, rest) p.1))
+    (λ p. let s = bind_some (expect row.Mark (codes "=") from) _ _ p.1 in
+    finish {A = Tall Capture} (λ z vs. Captured z.0 from vs) (capture.DefaultCopy s.0.0, 0) x s.0.1 rest s.2 (expected _ _ _ _ _ s.1))
+    (λ p. let n = bind_some (lexed row.Ident from) _ _ p.1 in
+    finish {A = Tall Capture} (λ z vs. Captured z.0 from vs) (capture.Copy n.0.0, 0) x n.0.1 rest n.2 (lexed_is _ _ _ _ n.1))
+    (choice (sees row.Mark (codes "=") from) _ _ (x, rest) p.1))
     (choice (sees row.Mark (codes "&") from) _ _ (x, rest) h)
 
 pub captures_are : (close : List ℕ) (from rest : List Token) (xs : Tall (List Capture)) → maybe_listed r.one_capture close from ≡ Some (xs, rest) → MaybeListed Captured xs.0 from rest
@@ -374,11 +378,11 @@ module _ (text : List ℕ) (q : Qualified) (from m : List Token) (there : Librar
   parameter_by_is t rest h =
       ⊎_elim (λ p. finish (λ z vs. LambdaParameterTyped z from vs) (parameter.Handler q) t m rest p.1 (library_name text "handler" q from m there p.0))
       (λ p. ⊎_elim (λ p. let x = bind_some (r.dimensions m) _ _ p.1 in
-        finish (λ z vs. LambdaParameterTyped z from vs) (parameter.Id q x.0.0) t x.0.1 rest x.2 (m, library_name text "id" q from m there p.0, dimensions_are m x.0.1 x.0.0 x.1))
+      finish (λ z vs. LambdaParameterTyped z from vs) (parameter.Id q x.0.0) t x.0.1 rest x.2 (m, library_name text "id" q from m there p.0, dimensions_are m x.0.1 x.0.0 x.1))
       (λ p. ⊎_elim (λ p. let x = bind_some (r.dimensions m) _ _ p.1 in
-        finish (λ z vs. LambdaParameterTyped z from vs) (parameter.Item q x.0.0) t x.0.1 rest x.2 (m, library_name text "item" q from m there p.0, dimensions_are m x.0.1 x.0.0 x.1))
+      finish (λ z vs. LambdaParameterTyped z from vs) (parameter.Item q x.0.0) t x.0.1 rest x.2 (m, library_name text "item" q from m there p.0, dimensions_are m x.0.1 x.0.0 x.1))
       (λ p. ⊎_elim (λ p. let x = bind_some (r.dimensions m) _ _ p.1 in
-        finish (λ z vs. LambdaParameterTyped z from vs) (parameter.NdItem q x.0.0) t x.0.1 rest x.2 (m, library_name text "nd_item" q from m there p.0, dimensions_are m x.0.1 x.0.0 x.1))
+      finish (λ z vs. LambdaParameterTyped z from vs) (parameter.NdItem q x.0.0) t x.0.1 rest x.2 (m, library_name text "nd_item" q from m there p.0, dimensions_are m x.0.1 x.0.0 x.1))
       (λ p. absurd (let clash : None ≡ Some (t, rest) = p.1 in cc))
       (which (bytes_eq text (codes "nd_item")) _ _ m (t, rest) p.1))
       (which (bytes_eq text (codes "item")) _ _ m (t, rest) p.1))
@@ -390,9 +394,9 @@ unfolding r.parameter_type keyword
 parameter_type_is from rest t h =
     ⊎_elim
     (λ p. let s = bind_some (expect row.Reserved (codes "auto") from) _ _ p.1 in
-      finish (λ z vs. LambdaParameterTyped z from vs) (parameter.Auto s.0.0) t s.0.1 rest s.2 (expected _ _ _ _ _ s.1))
+    finish (λ z vs. LambdaParameterTyped z from vs) (parameter.Auto s.0.0) t s.0.1 rest s.2 (expected _ _ _ _ _ s.1))
     (λ p. let n = bind_some (named (codes "sycl") from) _ _ p.1 in
-      parameter_by_is n.0.0.1.text (qualified n.0.0) from n.0.1 (library_is from n.0.1 n.0.0 n.1) t rest n.2)
+    parameter_by_is n.0.0.1.text (qualified n.0.0) from n.0.1 (library_is from n.0.1 n.0.0 n.1) t rest n.2)
     (choice (sees row.Reserved (codes "auto") from) _ _ (t, rest) h)
 
 one_parameter_is : (from rest : List Token) (x : Tall LambdaParameter) → r.one_parameter from ≡ Some (x, rest) → OneLambdaParameter x.0 from rest
@@ -410,9 +414,9 @@ maybe_parameters_are from rest x h =
     maybe_that row.Mark (codes "(") from
     (λ b us. (if b then (maybe_listed r.one_parameter (codes ")") >>= (λ ps. expect row.Mark (codes ")") >> pure (Some ps.0))) else pure None) us ≡ Some (x, rest) → Optional LambdaParameters x from rest)
     (λ us o h. let ps = bind_some (maybe_listed r.one_parameter (codes ")") us) _ _ h in
-      let c = bind_some (expect row.Mark (codes ")") ps.0.1) _ _ ps.2 in
-      finish (λ z vs. Optional LambdaParameters z from vs) (Some ps.0.0.0) x c.0.1 rest c.2
-      (us, ps.0.1, o, maybe_listed_stand r.one_parameter ParameterAt (λ m n le x us ts d. d) one_parameter_is (codes ")") us ps.0.1 ps.0.0 ps.1, expects _ _ _ _ _ c.1))
+    let c = bind_some (expect row.Mark (codes ")") ps.0.1) _ _ ps.2 in
+    finish (λ z vs. Optional LambdaParameters z from vs) (Some ps.0.0.0) x c.0.1 rest c.2
+    (us, ps.0.1, o, maybe_listed_stand r.one_parameter ParameterAt (λ m n le x us ts d. d) one_parameter_is (codes ")") us ps.0.1 ps.0.0 ps.1, expects _ _ _ _ _ c.1))
     (λ h. finish (λ z vs. Optional LambdaParameters z from vs) None x from rest h refl) h
 
 -- ---- template arguments of members
@@ -447,12 +451,12 @@ unfolding r.maybe_template_argument r.template_argument mark
 maybe_template_argument_is member from rest x h =
     ⊎_elim
     (λ p. let a = bind_some (r.template_argument from) _ _ p.1 in
-      let o = bind_some (expect row.Mark (codes "<") from) _ _ a.1 in
-      let t = bind_some (cond (sees_namespace (codes "sycl") o.0.1) (r.information o.0.1) (r.kernel_name o.0.1)) _ _ o.2 in
-      let c = bind_some (expect row.Mark (codes ">") t.0.1) _ _ t.2 in
-      let takes : IsTrue (takes_template_argument member.text) = is_true (takes_template_argument member.text) (and_both (takes_template_argument member.text) _ p.0).0 in
-      let found = finish (λ z vs. TemplateArguments member z from vs) t.0.0 a.0.0 c.0.1 a.0.1 c.2
-          (takes, (o.0.1, t.0.1, expects _ _ _ _ _ o.1, one_template_argument_is o.0.1 t.0.1 t.0.0 t.1, expects _ _ _ _ _ c.1)) in
-      finish (λ z vs. Optional (TemplateArguments member) z from vs) (Some a.0.0) x a.0.1 rest a.2 found)
+    let o = bind_some (expect row.Mark (codes "<") from) _ _ a.1 in
+    let t = bind_some (cond (sees_namespace (codes "sycl") o.0.1) (r.information o.0.1) (r.kernel_name o.0.1)) _ _ o.2 in
+    let c = bind_some (expect row.Mark (codes ">") t.0.1) _ _ t.2 in
+    let takes : IsTrue (takes_template_argument member.text) = is_true (takes_template_argument member.text) (and_both (takes_template_argument member.text) _ p.0).0 in
+    let found = finish (λ z vs. TemplateArguments member z from vs) t.0.0 a.0.0 c.0.1 a.0.1 c.2
+    (takes, (o.0.1, t.0.1, expects _ _ _ _ _ o.1, one_template_argument_is o.0.1 t.0.1 t.0.0 t.1, expects _ _ _ _ _ c.1)) in
+    finish (λ z vs. Optional (TemplateArguments member) z from vs) (Some a.0.0) x a.0.1 rest a.2 found)
     (λ p. finish (λ z vs. Optional (TemplateArguments member) z from vs) None x from rest p.1 refl)
     (choice (takes_template_argument member.text && sees row.Mark (codes "<") from) _ _ (x, rest) h)

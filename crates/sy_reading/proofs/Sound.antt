@@ -16,6 +16,7 @@ unfolding r.readers
 reads_sound zero = (λ l from rest t some top h. absurd cc, λ from rest t h. absurd cc)
 reads_sound (suc n) =
     let below = reads_sound n in
-    let lambdas = one_lambda_is (r.readers n).0 (r.readers n).1 below.1 in
-    (λ l from rest t some top h. chain_is (r.readers n).0 (r.readers n).1 below.0 lambdas l some top from rest t h,
-      λ from rest t h. one_stmt_is (r.readers n).0 (r.readers n).1 below.0 below.1 from rest t h)
+    let lambdas = one_lambda_is (r.readers n).0 (r.readers n).1 below.1 in (
+      λ l from rest t some top h. chain_is (r.readers n).0 (r.readers n).1 below.0 lambdas l some top from rest t h,
+      λ from rest t h. one_stmt_is (r.readers n).0 (r.readers n).1 below.0 below.1 from rest t h,
+    )

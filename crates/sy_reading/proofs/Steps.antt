@@ -77,11 +77,13 @@ is_that r text w h =
 
 -- a token is that word, at that place
 pub placed : (w : Word) (s : Spot) (t : Token) (ts rest : List Token) → t.word ≡ w → t.spot ≡ s → ts ≡ rest → At w s (t ∷ ts) rest
-placed w s t ts rest a b c =
-    (t.from, t.to,
-      ap (λ v. record { word = v; from = t.from; to = t.to; spot = t.spot } ∷ ts) a
+placed w s t ts rest a b c = (
+  t.from,
+  t.to,
+  ap (λ v. record { word = v; from = t.from; to = t.to; spot = t.spot } ∷ ts) a
       ∙ ap (λ p. record { word = w; from = t.from; to = t.to; spot = p } ∷ ts) b
-      ∙ ap (λ us. record { word = w; from = t.from; to = t.to; spot = s } ∷ us) c)
+      ∙ ap (λ us. record { word = w; from = t.from; to = t.to; spot = s } ∷ us) c,
+)
 
 pub expected : (r : Row) (text : List ℕ) (from rest : List Token) (s : Spot) → expect r text from ≡ Some (s, rest) → At (word r text) s from rest
 unfolding expect

@@ -63,10 +63,13 @@ module _ (E : ℕ → Reader (Tall Expr)) (S : Reader (Tall Stmt)) (ws : (from r
       ⊎_elim
       (λ p. finish {A = Tall (List Stmt)} (λ z vs. StatementsStand xs h from z vs) (xs, h) all from rest p.1 ([], omega arith, sym (append-nil xs), refl))
       (λ p. let x = bind_some (S from) _ _ p.1 in
-        let others = statements_stand n (xs ++ x.0.0.0 ∷ []) (max h x.0.0.1) x.0.1 rest all x.2 in
-        let le : x.0.0.1 ≤ all.1 = omega (arith, others.1) in
-        (x.0.0.0 ∷ others.0, omega (arith, others.1), others.2 ∙ append_assoc xs (x.0.0.0 ∷ []) others.0,
-          (x.0.1, Derives-taller x.0.0.1 all.1 le (a_stmt x.0.0.0) from x.0.1 (ws from x.0.1 x.0.0 x.1).0, others.3)))
+      let others = statements_stand n (xs ++ x.0.0.0 ∷ []) (max h x.0.0.1) x.0.1 rest all x.2 in
+      let le : x.0.0.1 ≤ all.1 = omega (arith, others.1) in (
+        x.0.0.0 ∷ others.0,
+        omega (arith, others.1),
+        others.2 ∙ append_assoc xs (x.0.0.0 ∷ []) others.0,
+        (x.0.1, Derives-taller x.0.0.1 all.1 le (a_stmt x.0.0.0) from x.0.1 (ws from x.0.1 x.0.0 x.1).0, others.3),
+      ))
       (choice (sees row.Mark (codes "}") from) _ _ (all, rest) d)
 
   pub one_block_is : (from rest : List Token) (z : Tall Block) → e.one_block E S from ≡ Some (z, rest) → Derives z.1 (a_block z.0) from rest × (z.1 ≤ 64)
@@ -88,9 +91,17 @@ module _ (E : ℕ → Reader (Tall Expr)) (S : Reader (Tall Stmt)) (ws : (from r
       let c = bind_some (expect row.Mark (codes "]") cs.0.1) _ _ cs.2 in
       let ps = bind_some (maybe_parameters c.0.1) _ _ c.2 in
       let b = bind_some (e.one_block E S ps.0.1) _ _ ps.2 in
-      (node_built a_lambda b.0.0.1 (record { spot = o.0.0; captures = cs.0.0.0; parameters = ps.0.0; body = b.0.0.0 }) from b.0.1 rest z
-        (o.0.1, cs.0.1, c.0.1, ps.0.1, expected _ _ _ _ _ o.1, captures_are (codes "]") o.0.1 cs.0.1 cs.0.0 cs.1, expects _ _ _ _ _ c.1,
-          maybe_parameters_are c.0.1 ps.0.1 ps.0.0 ps.1, (one_block_is ps.0.1 b.0.1 b.0.0 b.1).0) (grew _ _ _ z rest b.2)).0
+      (node_built a_lambda b.0.0.1 (record { spot = o.0.0; captures = cs.0.0.0; parameters = ps.0.0; body = b.0.0.0 }) from b.0.1 rest z (
+        o.0.1,
+        cs.0.1,
+        c.0.1,
+        ps.0.1,
+        expected _ _ _ _ _ o.1,
+        captures_are (codes "]") o.0.1 cs.0.1 cs.0.0 cs.1,
+        expects _ _ _ _ _ c.1,
+        maybe_parameters_are c.0.1 ps.0.1 ps.0.0 ps.1,
+        (one_block_is ps.0.1 b.0.1 b.0.0 b.1).0,
+      ) (grew _ _ _ z rest b.2)).0
 
 -- ---- declarations
 
@@ -187,19 +198,19 @@ module _ (E : ℕ → Reader (Tall Expr)) (S : Reader (Tall Stmt))
       let n = bind_some (lexed row.Ident from) _ _ h in
       ⊎_elim
       (λ p. let s = bind_some (expect row.Mark (codes "=") n.0.1) _ _ p.1 in
-        let v = bind_some (E 1 s.0.1) _ _ s.2 in
-        finish {A = Tall Declarator} (λ z vs. OneDeclarator (Derives z.1) z.0 from vs) (declarator.Equal n.0.0 s.0.0 v.0.0.0, v.0.0.1) x v.0.1 rest v.2
-        (rw (declarator.outs-Equal n.0.0 s.0.0 v.0.0.0) (n.0.1, s.0.1, lexed_is _ _ _ _ n.1, expected _ _ _ _ _ s.1, value s.0.1 v.0.1 v.0.0 v.1)))
+      let v = bind_some (E 1 s.0.1) _ _ s.2 in
+      finish {A = Tall Declarator} (λ z vs. OneDeclarator (Derives z.1) z.0 from vs) (declarator.Equal n.0.0 s.0.0 v.0.0.0, v.0.0.1) x v.0.1 rest v.2
+      (rw (declarator.outs-Equal n.0.0 s.0.0 v.0.0.0) (n.0.1, s.0.1, lexed_is _ _ _ _ n.1, expected _ _ _ _ _ s.1, value s.0.1 v.0.1 v.0.0 v.1)))
       (λ p. ⊎_elim
-        (λ p. let b = bind_some (opened n.0.1) _ _ p.1 in
-          let v = bind_some (E 1 b.0.1) _ _ b.2 in
-          let c = bind_some (closed b.0.0.0 v.0.1) _ _ v.2 in
-          finish {A = Tall Declarator} (λ z vs. OneDeclarator (Derives z.1) z.0 from vs) (declarator.Bracketed n.0.0 b.0.0.0 b.0.0.1 v.0.0.0 c.0.0, v.0.0.1) x c.0.1 rest c.2
-          (rw (declarator.outs-Bracketed n.0.0 b.0.0.0 b.0.0.1 v.0.0.0 c.0.0)
-            (n.0.1, b.0.1, v.0.1, lexed_is _ _ _ _ n.1, opened_is n.0.1 b.0.1 b.0.0 b.1, value b.0.1 v.0.1 v.0.0 v.1, closed_is b.0.0.0 v.0.1 c.0.1 c.0.0 c.1)))
-        (λ p. finish {A = Tall Declarator} (λ z vs. OneDeclarator (Derives z.1) z.0 from vs) (declarator.Uninitialized n.0.0, 0) x n.0.1 rest p.1
-          (rw (declarator.outs-Uninitialized n.0.0) (lexed_is _ _ _ _ n.1)))
-        (choice (sees row.Mark (codes "(") n.0.1 || sees row.Mark (codes "{") n.0.1) _ _ (x, rest) p.1))
+      (λ p. let b = bind_some (opened n.0.1) _ _ p.1 in
+      let v = bind_some (E 1 b.0.1) _ _ b.2 in
+      let c = bind_some (closed b.0.0.0 v.0.1) _ _ v.2 in
+      finish {A = Tall Declarator} (λ z vs. OneDeclarator (Derives z.1) z.0 from vs) (declarator.Bracketed n.0.0 b.0.0.0 b.0.0.1 v.0.0.0 c.0.0, v.0.0.1) x c.0.1 rest c.2
+      (rw (declarator.outs-Bracketed n.0.0 b.0.0.0 b.0.0.1 v.0.0.0 c.0.0)
+      (n.0.1, b.0.1, v.0.1, lexed_is _ _ _ _ n.1, opened_is n.0.1 b.0.1 b.0.0 b.1, value b.0.1 v.0.1 v.0.0 v.1, closed_is b.0.0.0 v.0.1 c.0.1 c.0.0 c.1)))
+      (λ p. finish {A = Tall Declarator} (λ z vs. OneDeclarator (Derives z.1) z.0 from vs) (declarator.Uninitialized n.0.0, 0) x n.0.1 rest p.1
+      (rw (declarator.outs-Uninitialized n.0.0) (lexed_is _ _ _ _ n.1)))
+      (choice (sees row.Mark (codes "(") n.0.1 || sees row.Mark (codes "{") n.0.1) _ _ (x, rest) p.1))
       (choice (sees row.Mark (codes "=") n.0.1) _ _ (x, rest) n.2)
 
   -- what a declaration is, with the height of what it holds
@@ -214,10 +225,10 @@ module _ (E : ℕ → Reader (Tall Expr)) (S : Reader (Tall Stmt))
       let ds = bind_some (all_listed (r.one_declarator E S) t.0.1) _ _ t.2 in
       let end = bind_some (expect row.Mark (codes ";") ds.0.1) _ _ ds.2 in
       let all = all_listed_stand (r.one_declarator E S) (λ n. OneDeclarator (Derives n)) (λ m n le x us ts k. OneDeclarator-map (Derives m) (Derives n) (Derives-taller m n le) x us ts k)
-          one_declarator_is t.0.1 ds.0.1 ds.0.0 ds.1 in
+      one_declarator_is t.0.1 ds.0.1 ds.0.0 ds.1 in
       finish {A = Tall Declaration} (λ z vs. Declares z from vs) (declaration.Integers c.0.0 t.0.0 ds.0.0.0 end.0.0, ds.0.0.1) d end.0.1 rest end.2
       (rw (declaration.outs-Integers c.0.0 t.0.0 ds.0.0.0 end.0.0)
-        (c.0.1, t.0.1, ds.0.1, const_specifier_is from c.0.1 c.0.0 c.1, type_specifier_is c.0.1 t.0.1 t.0.0 t.1, all, expected _ _ _ _ _ end.1))
+      (c.0.1, t.0.1, ds.0.1, const_specifier_is from c.0.1 c.0.0 c.1, type_specifier_is c.0.1 t.0.1 t.0.0 t.1, all, expected _ _ _ _ _ end.1))
 
   direct_is : (from rest : List Token) (x : Tall Initializer) → r.direct E S from ≡ Some (x, rest) → Initialized (Derives x.1) x.0 from rest
   unfolding r.direct r.direct_arguments
@@ -228,7 +239,7 @@ module _ (E : ℕ → Reader (Tall Expr)) (S : Reader (Tall Stmt))
       let all = with_brackets b.0.0.0 b.0.1 xs.0.1 xs.0.0 xs.1 in
       finish {A = Tall Initializer} (λ z vs. Initialized (Derives z.1) z.0 from vs) (initializer.Direct b.0.0.0 b.0.0.1 xs.0.0.0 c.0.0, xs.0.0.1) x c.0.1 rest c.2
       (rw (initializer.outs-Direct b.0.0.0 b.0.0.1 xs.0.0.0 c.0.0)
-        (all.0, (b.0.1, xs.0.1, opened_is from b.0.1 b.0.0 b.1, all.1, closed_is b.0.0.0 xs.0.1 c.0.1 c.0.0 c.1)))
+      (all.0, (b.0.1, xs.0.1, opened_is from b.0.1 b.0.0 b.1, all.1, closed_is b.0.0.0 xs.0.1 c.0.1 c.0.0 c.1)))
     where
       some_args : (xs : List Argument) (P : Rule Argument) (us ts : List Token) → Listed P xs us ts → IsNoFunction brackets.Parentheses xs × MaybeListed P xs us ts
       some_args [] P us ts d = absurd d
@@ -244,14 +255,14 @@ module _ (E : ℕ → Reader (Tall Expr)) (S : Reader (Tall Stmt))
   maybe_initializer_is from rest x h =
       ⊎_elim
       (λ p. let s = bind_some (expect row.Mark (codes "=") from) _ _ p.1 in
-        let v = bind_some (E 1 s.0.1) _ _ s.2 in
-        finish {A = Tall (Option Initializer)} (λ z vs. Optional (Initialized (Derives z.1)) z.0 from vs) (Some (initializer.Copy s.0.0 v.0.0.0), v.0.0.1) x v.0.1 rest v.2
-        (rw (initializer.outs-Copy s.0.0 v.0.0.0) (s.0.1, expected _ _ _ _ _ s.1, value s.0.1 v.0.1 v.0.0 v.1)))
+      let v = bind_some (E 1 s.0.1) _ _ s.2 in
+      finish {A = Tall (Option Initializer)} (λ z vs. Optional (Initialized (Derives z.1)) z.0 from vs) (Some (initializer.Copy s.0.0 v.0.0.0), v.0.0.1) x v.0.1 rest v.2
+      (rw (initializer.outs-Copy s.0.0 v.0.0.0) (s.0.1, expected _ _ _ _ _ s.1, value s.0.1 v.0.1 v.0.0 v.1)))
       (λ p. ⊎_elim
-        (λ p. let d = bind_some (r.direct E S from) _ _ p.1 in
-          finish {A = Tall (Option Initializer)} (λ z vs. Optional (Initialized (Derives z.1)) z.0 from vs) (Some d.0.0.0, d.0.0.1) x d.0.1 rest d.2 (direct_is from d.0.1 d.0.0 d.1))
-        (λ p. finish {A = Tall (Option Initializer)} (λ z vs. Optional (Initialized (Derives z.1)) z.0 from vs) (None, 0) x from rest p.1 refl)
-        (choice (sees row.Mark (codes "(") from || sees row.Mark (codes "{") from) _ _ (x, rest) p.1))
+      (λ p. let d = bind_some (r.direct E S from) _ _ p.1 in
+      finish {A = Tall (Option Initializer)} (λ z vs. Optional (Initialized (Derives z.1)) z.0 from vs) (Some d.0.0.0, d.0.0.1) x d.0.1 rest d.2 (direct_is from d.0.1 d.0.0 d.1))
+      (λ p. finish {A = Tall (Option Initializer)} (λ z vs. Optional (Initialized (Derives z.1)) z.0 from vs) (None, 0) x from rest p.1 refl)
+      (choice (sees row.Mark (codes "(") from || sees row.Mark (codes "{") from) _ _ (x, rest) p.1))
       (choice (sees row.Mark (codes "=") from) _ _ (x, rest) h)
 
   object_declaration_is : (from rest : List Token) (d : Tall Declaration) → r.object_declaration E S from ≡ Some (d, rest) → Declares d from rest
@@ -263,7 +274,7 @@ module _ (E : ℕ → Reader (Tall Expr)) (S : Reader (Tall Stmt))
       let end = bind_some (expect row.Mark (codes ";") v.0.1) _ _ v.2 in
       finish {A = Tall Declaration} (λ z vs. Declares z from vs) (declaration.Object t.0.0 n.0.0 v.0.0.0 end.0.0, v.0.0.1) d end.0.1 rest end.2
       (rw (declaration.outs-Object t.0.0 n.0.0 v.0.0.0 end.0.0)
-        (t.0.1, n.0.1, v.0.1, object_type_is from t.0.1 t.0.0 t.1, lexed_is _ _ _ _ n.1, maybe_initializer_is n.0.1 v.0.1 v.0.0 v.1, expected _ _ _ _ _ end.1))
+      (t.0.1, n.0.1, v.0.1, object_type_is from t.0.1 t.0.0 t.1, lexed_is _ _ _ _ n.1, maybe_initializer_is n.0.1 v.0.1 v.0.0 v.1, expected _ _ _ _ _ end.1))
 
   thread_is : (q : Qualified) (from m rest : List Token) (d : Tall Declaration) → Std "thread" q from m → r.thread E S q m ≡ Some (d, rest) → Declares d from rest
   unfolding r.thread mark
@@ -274,9 +285,19 @@ module _ (E : ℕ → Reader (Tall Expr)) (S : Reader (Tall Stmt))
       let c = bind_some (closed b.0.0.0 l.0.1) _ _ l.2 in
       let end = bind_some (expect row.Mark (codes ";") c.0.1) _ _ c.2 in
       finish {A = Tall Declaration} (λ z vs. Declares z from vs) (declaration.Thread q n.0.0 b.0.0.0 l.0.0.0 end.0.0, l.0.0.1) d end.0.1 rest end.2
-      (rw (declaration.outs-Thread q n.0.0 b.0.0.0 l.0.0.0 end.0.0)
-        (m, n.0.1, b.0.1, l.0.1, c.0.1, there, lexed_is _ _ _ _ n.1, (b.0.0.1, opened_is n.0.1 b.0.1 b.0.0 b.1), lambdas b.0.1 l.0.1 l.0.0 l.1,
-          (c.0.0, closed_is b.0.0.0 l.0.1 c.0.1 c.0.0 c.1), expected _ _ _ _ _ end.1))
+      (rw (declaration.outs-Thread q n.0.0 b.0.0.0 l.0.0.0 end.0.0) (
+        m,
+        n.0.1,
+        b.0.1,
+        l.0.1,
+        c.0.1,
+        there,
+        lexed_is _ _ _ _ n.1,
+        (b.0.0.1, opened_is n.0.1 b.0.1 b.0.0 b.1),
+        lambdas b.0.1 l.0.1 l.0.0 l.1,
+        (c.0.0, closed_is b.0.0.0 l.0.1 c.0.1 c.0.0 c.1),
+        expected _ _ _ _ _ end.1,
+      ))
 
   vector_is : (q : Qualified) (from m rest : List Token) (d : Tall Declaration) → Std "vector" q from m → r.vector E S q m ≡ Some (d, rest) → Declares d from rest
   unfolding r.vector r.thread_vector r.device_vector r.integer_vector mark identifier
@@ -284,32 +305,51 @@ module _ (E : ℕ → Reader (Tall Expr)) (S : Reader (Tall Stmt))
       let o = bind_some (expect row.Mark (codes "<") m) _ _ h in
       ⊎_elim
       (λ p. let t = bind_some (within (codes "std") (codes "thread") o.0.1) _ _ p.1 in
-        let c = bind_some (expect row.Mark (codes ">") t.0.1) _ _ t.2 in
-        let n = bind_some (lexed row.Ident c.0.1) _ _ c.2 in
-        let end = bind_some (expect row.Mark (codes ";") n.0.1) _ _ n.2 in
-        finish {A = Tall Declaration} (λ z vs. Declares z from vs) (declaration.ThreadVector q n.0.0 end.0.0, 0) d end.0.1 rest end.2
-        (rw (declaration.outs-ThreadVector q n.0.0 end.0.0)
-          (m, o.0.1, t.0.1, c.0.1, n.0.1, t.0.0, there, expects _ _ _ _ _ o.1, within_is _ _ _ _ _ t.1, expects _ _ _ _ _ c.1, lexed_is _ _ _ _ n.1, expected _ _ _ _ _ end.1)))
+      let c = bind_some (expect row.Mark (codes ">") t.0.1) _ _ t.2 in
+      let n = bind_some (lexed row.Ident c.0.1) _ _ c.2 in
+      let end = bind_some (expect row.Mark (codes ";") n.0.1) _ _ n.2 in
+      finish {A = Tall Declaration} (λ z vs. Declares z from vs) (declaration.ThreadVector q n.0.0 end.0.0, 0) d end.0.1 rest end.2
+      (rw (declaration.outs-ThreadVector q n.0.0 end.0.0)
+      (m, o.0.1, t.0.1, c.0.1, n.0.1, t.0.0, there, expects _ _ _ _ _ o.1, within_is _ _ _ _ _ t.1, expects _ _ _ _ _ c.1, lexed_is _ _ _ _ n.1, expected _ _ _ _ _ end.1)))
       (λ p. ⊎_elim
-        (λ p. let t = bind_some (within (codes "sycl") (codes "device") o.0.1) _ _ p.1 in
-          let c = bind_some (expect row.Mark (codes ">") t.0.1) _ _ t.2 in
-          let n = bind_some (lexed row.Ident c.0.1) _ _ c.2 in
-          let v = bind_some (r.maybe_initializer E S n.0.1) _ _ n.2 in
-          let end = bind_some (expect row.Mark (codes ";") v.0.1) _ _ v.2 in
-          finish {A = Tall Declaration} (λ z vs. Declares z from vs) (declaration.DeviceVector q n.0.0 v.0.0.0 end.0.0, v.0.0.1) d end.0.1 rest end.2
-          (rw (declaration.outs-DeviceVector q n.0.0 v.0.0.0 end.0.0)
-            (m, o.0.1, t.0.1, c.0.1, n.0.1, v.0.1, t.0.0, there, expects _ _ _ _ _ o.1, within_is _ _ _ _ _ t.1, expects _ _ _ _ _ c.1, lexed_is _ _ _ _ n.1,
-              maybe_initializer_is n.0.1 v.0.1 v.0.0 v.1, expected _ _ _ _ _ end.1)))
-        (λ p. let t = bind_some (integral o.0.1) _ _ p.1 in
-          let c = bind_some (expect row.Mark (codes ">") t.0.1) _ _ t.2 in
-          let n = bind_some (lexed row.Ident c.0.1) _ _ c.2 in
-          let v = bind_some (r.maybe_initializer E S n.0.1) _ _ n.2 in
-          let end = bind_some (expect row.Mark (codes ";") v.0.1) _ _ v.2 in
-          finish {A = Tall Declaration} (λ z vs. Declares z from vs) (declaration.Vector q t.0.0 n.0.0 v.0.0.0 end.0.0, v.0.0.1) d end.0.1 rest end.2
-          (rw (declaration.outs-Vector q t.0.0 n.0.0 v.0.0.0 end.0.0)
-            (c.0.1, n.0.1, v.0.1, (m, o.0.1, t.0.1, there, expects _ _ _ _ _ o.1, integral_is o.0.1 t.0.1 t.0.0 t.1, expects _ _ _ _ _ c.1), lexed_is _ _ _ _ n.1,
-              maybe_initializer_is n.0.1 v.0.1 v.0.0 v.1, expected _ _ _ _ _ end.1)))
-        (choice (sees_namespace (codes "sycl") o.0.1) _ _ (d, rest) p.1))
+      (λ p. let t = bind_some (within (codes "sycl") (codes "device") o.0.1) _ _ p.1 in
+      let c = bind_some (expect row.Mark (codes ">") t.0.1) _ _ t.2 in
+      let n = bind_some (lexed row.Ident c.0.1) _ _ c.2 in
+      let v = bind_some (r.maybe_initializer E S n.0.1) _ _ n.2 in
+      let end = bind_some (expect row.Mark (codes ";") v.0.1) _ _ v.2 in
+      finish {A = Tall Declaration} (λ z vs. Declares z from vs) (declaration.DeviceVector q n.0.0 v.0.0.0 end.0.0, v.0.0.1) d end.0.1 rest end.2
+      (rw (declaration.outs-DeviceVector q n.0.0 v.0.0.0 end.0.0) (
+        m,
+        o.0.1,
+        t.0.1,
+        c.0.1,
+        n.0.1,
+        v.0.1,
+        t.0.0,
+        there,
+        expects _ _ _ _ _ o.1,
+        within_is _ _ _ _ _ t.1,
+        expects _ _ _ _ _ c.1,
+        lexed_is _ _ _ _ n.1,
+        maybe_initializer_is n.0.1 v.0.1 v.0.0 v.1,
+        expected _ _ _ _ _ end.1,
+      )))
+      (λ p. let t = bind_some (integral o.0.1) _ _ p.1 in
+      let c = bind_some (expect row.Mark (codes ">") t.0.1) _ _ t.2 in
+      let n = bind_some (lexed row.Ident c.0.1) _ _ c.2 in
+      let v = bind_some (r.maybe_initializer E S n.0.1) _ _ n.2 in
+      let end = bind_some (expect row.Mark (codes ";") v.0.1) _ _ v.2 in
+      finish {A = Tall Declaration} (λ z vs. Declares z from vs) (declaration.Vector q t.0.0 n.0.0 v.0.0.0 end.0.0, v.0.0.1) d end.0.1 rest end.2
+      (rw (declaration.outs-Vector q t.0.0 n.0.0 v.0.0.0 end.0.0) (
+        c.0.1,
+        n.0.1,
+        v.0.1,
+        (m, o.0.1, t.0.1, there, expects _ _ _ _ _ o.1, integral_is o.0.1 t.0.1 t.0.0 t.1, expects _ _ _ _ _ c.1),
+        lexed_is _ _ _ _ n.1,
+        maybe_initializer_is n.0.1 v.0.1 v.0.0 v.1,
+        expected _ _ _ _ _ end.1,
+      )))
+      (choice (sees_namespace (codes "sycl") o.0.1) _ _ (d, rest) p.1))
       (choice (sees_namespace (codes "std") o.0.1) _ _ (d, rest) o.2)
 
   standard_declaration_is : (from rest : List Token) (d : Tall Declaration) → r.standard_declaration E S from ≡ Some (d, rest) → Declares d from rest
@@ -319,8 +359,8 @@ module _ (E : ℕ → Reader (Tall Expr)) (S : Reader (Tall Stmt))
       let there : Standard p.0.0.1.text (qualified p.0.0) from p.0.1 = named_is (codes "std") from p.0.1 p.0.0 p.1 in
       ⊎_elim (λ q. vector_is (qualified p.0.0) from p.0.1 rest d (standard_name p.0.0.1.text "vector" (qualified p.0.0) from p.0.1 there q.0) q.1)
       (λ q. ⊎_elim (λ q. thread_is (qualified p.0.0) from p.0.1 rest d (standard_name p.0.0.1.text "thread" (qualified p.0.0) from p.0.1 there q.0) q.1)
-        (λ q. absurd (let clash : None ≡ Some (d, rest) = q.1 in cc))
-        (which (bytes_eq p.0.0.1.text (codes "thread")) _ _ p.0.1 (d, rest) q.1))
+      (λ q. absurd (let clash : None ≡ Some (d, rest) = q.1 in cc))
+      (which (bytes_eq p.0.0.1.text (codes "thread")) _ _ p.0.1 (d, rest) q.1))
       (which (bytes_eq p.0.0.1.text (codes "vector")) _ _ p.0.1 (d, rest) p.2)
 
   declared_is : (read : Reader (Tall Declaration)) (from rest : List Token) (z : Tall Stmt) → ((us : List Token) (d : Tall Declaration) → read from ≡ Some (d, us) → Declares d from us) →
@@ -347,7 +387,7 @@ module _ (E : ℕ → Reader (Tall Expr)) (S : Reader (Tall Stmt))
           let high = max a.1 y.0.0.1 in
           finish {A = Tall FullExpression} (λ z vs. FullRule (Derives z.1) (out-FullExpression z.0) from vs) (full.Assignment a.0 s.0.0 o y.0.0.0, high) x y.0.1 rest y.2
           (rw (full.outs-Assignment a.0 s.0.0 o y.0.0.0)
-            (mid, s.0.1, Derives-taller a.1 high (omega arith) (an_expr 1 a.0) from mid left, assignment_there o mid s.0.1 s.0.0 is s.1, value_at s.0.1 y.0.1 y.0.0 y.1 high (omega arith)))
+          (mid, s.0.1, Derives-taller a.1 high (omega arith) (an_expr 1 a.0) from mid left, assignment_there o mid s.0.1 s.0.0 is s.1, value_at s.0.1 y.0.1 y.0.0 y.1 high (omega arith)))
 
   full_is : (from rest : List Token) (z : Tall FullExpression) → r.full E S from ≡ Some (z, rest) → Derives z.1 (a_full z.0) from rest
   unfolding r.full
@@ -373,14 +413,14 @@ module _ (E : ℕ → Reader (Tall Expr)) (S : Reader (Tall Stmt))
   simple_is from rest z h =
       ⊎_elim (λ p. null_is from rest z p.1)
       (λ p. ⊎_elim (λ p. declared_is (r.integers E S) from rest z (λ us d k. integers_are from us d k) p.1)
-        (λ p. ⊎_elim (λ p. declared_is (r.standard_declaration E S) from rest z (λ us d k. standard_declaration_is from us d k) p.1)
-          (λ p. ⊎_elim
-            (λ p. ⊎_elim (λ p. declared_is (r.object_declaration E S) from rest z (λ us d k. object_declaration_is from us d k) p.1) (λ p. expression_is from rest z p.1)
-              (choice (declares_object from) _ _ (z, rest) p.1))
-            (λ p. expression_is from rest z p.1)
-            (choice (sees_namespace (codes "sycl") from) _ _ (z, rest) p.1))
-          (choice (sees_namespace (codes "std") from) _ _ (z, rest) p.1))
-        (choice (r.declares_integers from) _ _ (z, rest) p.1))
+      (λ p. ⊎_elim (λ p. declared_is (r.standard_declaration E S) from rest z (λ us d k. standard_declaration_is from us d k) p.1)
+      (λ p. ⊎_elim
+      (λ p. ⊎_elim (λ p. declared_is (r.object_declaration E S) from rest z (λ us d k. object_declaration_is from us d k) p.1) (λ p. expression_is from rest z p.1)
+      (choice (declares_object from) _ _ (z, rest) p.1))
+      (λ p. expression_is from rest z p.1)
+      (choice (sees_namespace (codes "sycl") from) _ _ (z, rest) p.1))
+      (choice (sees_namespace (codes "std") from) _ _ (z, rest) p.1))
+      (choice (r.declares_integers from) _ _ (z, rest) p.1))
       (choice (sees row.Mark (codes ";") from) _ _ (z, rest) h)
 
   -- ---- statements
@@ -393,23 +433,22 @@ module _ (E : ℕ → Reader (Tall Expr)) (S : Reader (Tall Stmt))
       finish {A = Tall Stmt} (λ u vs. StmtStands u from vs) (t.Compound b.0.0.0, b.0.0.1) z b.0.1 rest b.2
       (block_stmt b.0.0.1 b.0.0.0 from b.0.1 d.0, d.1)
 
-
   one_printed_is : (from rest : List Token) (x : Tall Printed) → r.one_printed E S from ≡ Some (x, rest) → OnePrinted (Derives x.1) x.0 from rest
   unfolding r.one_printed mark identifier
   one_printed_is from rest x h =
       let s = bind_some (expect row.Mark (codes "<<") from) _ _ h in
       ⊎_elim
       (λ p. let n = bind_some (lexed row.Str s.0.1) _ _ p.1 in
-        finish {A = Tall Printed} (λ z vs. OnePrinted (Derives z.1) z.0 from vs) (item.Text s.0.0 n.0.0, 0) x n.0.1 rest n.2
-        (rw (item.outs-Text s.0.0 n.0.0) (s.0.1, expected _ _ _ _ _ s.1, lexed_is _ _ _ _ n.1)))
+      finish {A = Tall Printed} (λ z vs. OnePrinted (Derives z.1) z.0 from vs) (item.Text s.0.0 n.0.0, 0) x n.0.1 rest n.2
+      (rw (item.outs-Text s.0.0 n.0.0) (s.0.1, expected _ _ _ _ _ s.1, lexed_is _ _ _ _ n.1)))
       (λ p. ⊎_elim
-        (λ p. let q = bind_some (within (codes "std") (codes "endl") s.0.1) _ _ p.1 in
-          finish {A = Tall Printed} (λ z vs. OnePrinted (Derives z.1) z.0 from vs) (item.EndLine s.0.0 q.0.0, 0) x q.0.1 rest q.2
-          (rw (item.outs-EndLine s.0.0 q.0.0) (s.0.1, expected _ _ _ _ _ s.1, within_is _ _ _ _ _ q.1)))
-        (λ p. let v = bind_some (E 10 s.0.1) _ _ p.1 in
-          finish {A = Tall Printed} (λ z vs. OnePrinted (Derives z.1) z.0 from vs) (item.Operand s.0.0 v.0.0.0, v.0.0.1) x v.0.1 rest v.2
-          (rw (item.outs-Operand s.0.0 v.0.0.0) (s.0.1, expected _ _ _ _ _ s.1, (we 10 s.0.1 v.0.1 v.0.0 (omega arith) (omega arith) v.1).0.0)))
-        (choice (sees_namespace (codes "std") s.0.1) _ _ (x, rest) p.1))
+      (λ p. let q = bind_some (within (codes "std") (codes "endl") s.0.1) _ _ p.1 in
+      finish {A = Tall Printed} (λ z vs. OnePrinted (Derives z.1) z.0 from vs) (item.EndLine s.0.0 q.0.0, 0) x q.0.1 rest q.2
+      (rw (item.outs-EndLine s.0.0 q.0.0) (s.0.1, expected _ _ _ _ _ s.1, within_is _ _ _ _ _ q.1)))
+      (λ p. let v = bind_some (E 10 s.0.1) _ _ p.1 in
+      finish {A = Tall Printed} (λ z vs. OnePrinted (Derives z.1) z.0 from vs) (item.Operand s.0.0 v.0.0.0, v.0.0.1) x v.0.1 rest v.2
+      (rw (item.outs-Operand s.0.0 v.0.0.0) (s.0.1, expected _ _ _ _ _ s.1, (we 10 s.0.1 v.0.1 v.0.0 (omega arith) (omega arith) v.1).0.0)))
+      (choice (sees_namespace (codes "std") s.0.1) _ _ (x, rest) p.1))
       (choice (sees_row row.Str s.0.1) _ _ (x, rest) s.2)
 
   abbrev PrintedStand : List Printed → ℕ → List Token → Tall (List Printed) → List Token → Type 0
@@ -422,11 +461,15 @@ module _ (E : ℕ → Reader (Tall Expr)) (S : Reader (Tall Stmt))
       let x = bind_some (r.one_printed E S from) _ _ d in
       let first = one_printed_is from x.0.1 x.0.0 x.1 in
       ⊎_elim
-      (λ p. let others = printed_stand n (xs ++ x.0.0.0 ∷ []) (max h x.0.0.1) x.0.1 rest all p.1 in
-        (x.0.0.0, others.0 ∷ others.1, omega (arith, others.2), others.3 ∙ append_assoc xs (x.0.0.0 ∷ []) (others.0 ∷ others.1),
-          (x.0.1, printed_taller x.0.0.1 all.1 (omega (arith, others.2)) x.0.0.0 from x.0.1 first, others.4)))
+      (λ p. let others = printed_stand n (xs ++ x.0.0.0 ∷ []) (max h x.0.0.1) x.0.1 rest all p.1 in (
+        x.0.0.0,
+        others.0 ∷ others.1,
+        omega (arith, others.2),
+        others.3 ∙ append_assoc xs (x.0.0.0 ∷ []) (others.0 ∷ others.1),
+        (x.0.1, printed_taller x.0.0.1 all.1 (omega (arith, others.2)) x.0.0.0 from x.0.1 first, others.4),
+      ))
       (λ p. finish {A = Tall (List Printed)} (λ z vs. PrintedStand xs h from z vs) (xs ++ x.0.0.0 ∷ [], max h x.0.0.1) all x.0.1 rest p.1
-        (x.0.0.0, [], omega arith, refl, (x.0.1, printed_taller x.0.0.1 (max h x.0.0.1) (omega arith) x.0.0.0 from x.0.1 first, refl)))
+      (x.0.0.0, [], omega arith, refl, (x.0.1, printed_taller x.0.0.1 (max h x.0.0.1) (omega arith) x.0.0.0 from x.0.1 first, refl)))
       (choice (sees row.Mark (codes "<<") x.0.1) _ _ (all, rest) x.2)
 
   print_is : (from rest : List Token) (z : Tall Stmt) → r.print E S from ≡ Some (z, rest) → StmtStands z from rest
@@ -458,7 +501,7 @@ module _ (E : ℕ → Reader (Tall Expr)) (S : Reader (Tall Stmt))
   maybe_expr_is from rest x h =
       ⊎_elim (λ p. finish {A = Tall (Option Expr)} (λ z vs. Optional (AnyExpr (Derives z.1)) z.0 from vs) (None, 0) x from rest p.1 refl)
       (λ p. let v = bind_some (E 1 from) _ _ p.1 in
-        finish {A = Tall (Option Expr)} (λ z vs. Optional (AnyExpr (Derives z.1)) z.0 from vs) (Some v.0.0.0, v.0.0.1) x v.0.1 rest v.2 (value from v.0.1 v.0.0 v.1))
+      finish {A = Tall (Option Expr)} (λ z vs. Optional (AnyExpr (Derives z.1)) z.0 from vs) (Some v.0.0.0, v.0.0.1) x v.0.1 rest v.2 (value from v.0.1 v.0.0 v.1))
       (choice (sees row.Mark (codes ";") from) _ _ (x, rest) h)
 
   maybe_full_is : (from rest : List Token) (x : Tall (Option FullExpression)) → r.maybe_full E S from ≡ Some (x, rest) → Optional (AnyFull (Derives x.1)) x.0 from rest
@@ -466,7 +509,7 @@ module _ (E : ℕ → Reader (Tall Expr)) (S : Reader (Tall Stmt))
   maybe_full_is from rest x h =
       ⊎_elim (λ p. finish {A = Tall (Option FullExpression)} (λ z vs. Optional (AnyFull (Derives z.1)) z.0 from vs) (None, 0) x from rest p.1 refl)
       (λ p. let v = bind_some (r.full E S from) _ _ p.1 in
-        finish {A = Tall (Option FullExpression)} (λ z vs. Optional (AnyFull (Derives z.1)) z.0 from vs) (Some v.0.0.0, v.0.0.1) x v.0.1 rest v.2 (full_is from v.0.1 v.0.0 v.1))
+      finish {A = Tall (Option FullExpression)} (λ z vs. Optional (AnyFull (Derives z.1)) z.0 from vs) (Some v.0.0.0, v.0.0.1) x v.0.1 rest v.2 (full_is from v.0.1 v.0.0 v.1))
       (choice (sees row.Mark (codes ")") from) _ _ (x, rest) h)
 
   return_is : (from rest : List Token) (z : Tall Stmt) → r.return_value E S from ≡ Some (z, rest) → StmtStands z from rest
@@ -530,9 +573,17 @@ module _ (E : ℕ → Reader (Tall Expr)) (S : Reader (Tall Stmt))
       let c = bind_some (r.condition E S w.0.1) _ _ w.2 in
       let end = bind_some (expect row.Mark (codes ";") c.0.1) _ _ c.2 in
       let high = max a.0.0.1 c.0.0.1 in
-      stmt_built high _ _ from end.0.1 rest z (t.outs-Do s.0.0 a.0.0.0 c.0.0.0 end.0.0)
-      (s.0.1, a.0.1, w.0.1, c.0.1, expected _ _ _ _ _ s.1, stmt_at s.0.1 a.0.1 a.0.0 a.1 high (omega arith), expects _ _ _ _ _ w.1,
-        condition_is w.0.1 c.0.1 c.0.0 c.1 high (omega arith), expected _ _ _ _ _ end.1) end.2
+      stmt_built high _ _ from end.0.1 rest z (t.outs-Do s.0.0 a.0.0.0 c.0.0.0 end.0.0) (
+        s.0.1,
+        a.0.1,
+        w.0.1,
+        c.0.1,
+        expected _ _ _ _ _ s.1,
+        stmt_at s.0.1 a.0.1 a.0.0 a.1 high (omega arith),
+        expects _ _ _ _ _ w.1,
+        condition_is w.0.1 c.0.1 c.0.0 c.1 high (omega arith),
+        expected _ _ _ _ _ end.1,
+      ) end.2
 
   plain_for_is : (s : Spot) (from m k rest : List Token) (z : Tall Stmt) → At (keyword "for") s from m → Sees (mark "(") m k → r.plain_for E S s k ≡ Some (z, rest) → StmtStands z from rest
   unfolding r.plain_for mark
@@ -549,9 +600,23 @@ module _ (E : ℕ → Reader (Tall Expr)) (S : Reader (Tall Stmt))
       let low_b : b.0.0.1 ≤ high = omega arith in
       let test = Optional-map (AnyExpr (Derives c.0.0.1)) (AnyExpr (Derives high)) (λ v us ts k. Derives-taller c.0.0.1 high low_c (an_expr 1 v) us ts k) c.0.0.0 a.0.1 c.0.1 (maybe_expr_is a.0.1 c.0.1 c.0.0 c.1) in
       let last = Optional-map (AnyFull (Derives b.0.0.1)) (AnyFull (Derives high)) (λ v us ts k. Derives-taller b.0.0.1 high low_b (a_full v) us ts k) b.0.0.0 d.0.1 b.0.1 (maybe_full_is d.0.1 b.0.1 b.0.0 b.1) in
-      stmt_built high _ _ from x.0.1 rest z (t.outs-For s a.0.0.0 c.0.0.0 b.0.0.0 x.0.0.0)
-      (m, k, a.0.1, c.0.1, d.0.1, b.0.1, g.0.1, at, open_, (init.0, Derives-taller a.0.0.1 high (omega arith) (a_stmt a.0.0.0) k a.0.1 init.1.0), test, expects _ _ _ _ _ d.1, last,
-        expects _ _ _ _ _ g.1, stmt_at g.0.1 x.0.1 x.0.0 x.1 high (omega arith)) x.2
+      stmt_built high _ _ from x.0.1 rest z (t.outs-For s a.0.0.0 c.0.0.0 b.0.0.0 x.0.0.0) (
+        m,
+        k,
+        a.0.1,
+        c.0.1,
+        d.0.1,
+        b.0.1,
+        g.0.1,
+        at,
+        open_,
+        (init.0, Derives-taller a.0.0.1 high (omega arith) (a_stmt a.0.0.0) k a.0.1 init.1.0),
+        test,
+        expects _ _ _ _ _ d.1,
+        last,
+        expects _ _ _ _ _ g.1,
+        stmt_at g.0.1 x.0.1 x.0.0 x.1 high (omega arith),
+      ) x.2
 
   range_for_is : (s : Spot) (header : r.RangeHeader) (from m k after_header rest : List Token) (z : Tall Stmt) → At (keyword "for") s from m → Sees (mark "(") m k →
       r.range_header k ≡ Some (header, after_header) → r.range_for E S s header after_header ≡ Some (z, rest) → StmtStands z from rest
@@ -566,12 +631,37 @@ module _ (E : ℕ → Reader (Tall Expr)) (S : Reader (Tall Stmt))
       let x = bind_some (S d.0.1) _ _ d.2 in
       let tail_ = subst (λ us. Sees (mark ":") n.0.1 us) (ap (λ p. p.1) same) (expects _ _ _ _ _ c.1) in
       let built = subst (λ q. (i j p u v : List Token) × Maybe (keyword "const") q.0.0 k i × TypeSpecified q.0.1 i j × Maybe (mark "&") q.1.0 j p × Identifier q.1.1 p u × Sees (mark ":") u v × (v ≡ after_header))
-          (ap (λ p. p.0) same)
-          (after row.Reserved (codes "const") k, ty.0.1, after row.Mark (codes "&") ty.0.1, n.0.1, after_header, eaten row.Reserved (codes "const") k,
-            type_specifier_is _ _ _ ty.1, eaten row.Mark (codes "&") ty.0.1, lexed_is _ _ _ _ n.1, tail_, refl) in
-      stmt_built x.0.0.1 _ _ from x.0.1 rest z (t.outs-RangeFor s header.0.0 header.0.1 header.1.0 header.1.1 y.0.0 x.0.0.0)
-      (m, k, built.0, built.1, built.2, built.3, built.4, d.0.1, at, open_, built.5, built.6, built.7, built.8, built.9,
-        (y.0.1, subst (λ us. Identifier y.0.0 us y.0.1) (sym built.10) (lexed_is _ _ _ _ y.1), expects _ _ _ _ _ d.1, (ws d.0.1 x.0.1 x.0.0 x.1).0)) x.2
+      (ap (λ p. p.0) same) (
+        after row.Reserved (codes "const") k,
+        ty.0.1,
+        after row.Mark (codes "&") ty.0.1,
+        n.0.1,
+        after_header,
+        eaten row.Reserved (codes "const") k,
+        type_specifier_is _ _ _ ty.1,
+        eaten row.Mark (codes "&") ty.0.1,
+        lexed_is _ _ _ _ n.1,
+        tail_,
+        refl,
+      ) in
+      stmt_built x.0.0.1 _ _ from x.0.1 rest z (t.outs-RangeFor s header.0.0 header.0.1 header.1.0 header.1.1 y.0.0 x.0.0.0) (
+        m,
+        k,
+        built.0,
+        built.1,
+        built.2,
+        built.3,
+        built.4,
+        d.0.1,
+        at,
+        open_,
+        built.5,
+        built.6,
+        built.7,
+        built.8,
+        built.9,
+        (y.0.1, subst (λ us. Identifier y.0.0 us y.0.1) (sym built.10) (lexed_is _ _ _ _ y.1), expects _ _ _ _ _ d.1, (ws d.0.1 x.0.1 x.0.0 x.1).0),
+      ) x.2
 
   for_is : (from rest : List Token) (z : Tall Stmt) → r.for_loop E S from ≡ Some (z, rest) → StmtStands z from rest
   unfolding r.for_loop r.maybe_range_header mark keyword
@@ -603,22 +693,41 @@ module _ (E : ℕ → Reader (Tall Expr)) (S : Reader (Tall Stmt))
       let high = max b.0.0.1 c.0.0.1 in
       let first = one_block_is E S ws s.0.1 b.0.1 b.0.0 b.1 in
       let second = one_block_is E S ws x.0.1 c.0.1 c.0.0 c.1 in
-      stmt_built high _ _ from c.0.1 rest z (t.outs-Try s.0.0 b.0.0.0 x.0.0 c.0.0.0)
-      (s.0.1, b.0.1, k.0.1, o.0.1, f.0.1, q.0.1, a.0.1, x.0.1, q.0.0, expected _ _ _ _ _ s.1, Derives-taller b.0.0.1 high (omega arith) (a_block b.0.0.0) s.0.1 b.0.1 first.0,
-        expects _ _ _ _ _ k.1, expects _ _ _ _ _ o.1, expects _ _ _ _ _ f.1, within_is _ _ _ _ _ q.1, expects _ _ _ _ _ a.1,
-        (n.0.1, subst (λ y. Identifier y a.0.1 n.0.1) (ap (λ p. p.0) same) (lexed_is _ _ _ _ n.1), subst (λ us. Sees (mark ")") n.0.1 us) (ap (λ p. p.1) same) (expects _ _ _ _ _ d.1),
-          Derives-taller c.0.0.1 high (omega arith) (a_block c.0.0.0) x.0.1 c.0.1 second.0)) c.2
+      stmt_built high _ _ from c.0.1 rest z (t.outs-Try s.0.0 b.0.0.0 x.0.0 c.0.0.0) (
+        s.0.1,
+        b.0.1,
+        k.0.1,
+        o.0.1,
+        f.0.1,
+        q.0.1,
+        a.0.1,
+        x.0.1,
+        q.0.0,
+        expected _ _ _ _ _ s.1,
+        Derives-taller b.0.0.1 high (omega arith) (a_block b.0.0.0) s.0.1 b.0.1 first.0,
+        expects _ _ _ _ _ k.1,
+        expects _ _ _ _ _ o.1,
+        expects _ _ _ _ _ f.1,
+        within_is _ _ _ _ _ q.1,
+        expects _ _ _ _ _ a.1,
+        (
+          n.0.1,
+          subst (λ y. Identifier y a.0.1 n.0.1) (ap (λ p. p.0) same) (lexed_is _ _ _ _ n.1),
+          subst (λ us. Sees (mark ")") n.0.1 us) (ap (λ p. p.1) same) (expects _ _ _ _ _ d.1),
+          Derives-taller c.0.0.1 high (omega arith) (a_block c.0.0.0) x.0.1 c.0.1 second.0,
+        ),
+      ) c.2
 
   repeated_is : (from rest : List Token) (z : Tall Stmt) → r.repeated E S from ≡ Some (z, rest) → StmtStands z from rest
   unfolding r.repeated
   repeated_is from rest z h =
       ⊎_elim (λ p. while_is from rest z p.1)
       (λ p. ⊎_elim (λ p. do_is from rest z p.1)
-        (λ p. ⊎_elim (λ p. for_is from rest z p.1)
-          (λ p. ⊎_elim (λ p. try_is from rest z p.1) (λ p. (simple_is from rest z p.1).1)
-            (choice (sees row.Reserved (codes "try") from) _ _ (z, rest) p.1))
-          (choice (sees row.Reserved (codes "for") from) _ _ (z, rest) p.1))
-        (choice (sees row.Reserved (codes "do") from) _ _ (z, rest) p.1))
+      (λ p. ⊎_elim (λ p. for_is from rest z p.1)
+      (λ p. ⊎_elim (λ p. try_is from rest z p.1) (λ p. (simple_is from rest z p.1).1)
+      (choice (sees row.Reserved (codes "try") from) _ _ (z, rest) p.1))
+      (choice (sees row.Reserved (codes "for") from) _ _ (z, rest) p.1))
+      (choice (sees row.Reserved (codes "do") from) _ _ (z, rest) p.1))
       (choice (sees row.Reserved (codes "while") from) _ _ (z, rest) h)
 
   reserved_is : (from rest : List Token) (z : Tall Stmt) → r.reserved E S from ≡ Some (z, rest) → StmtStands z from rest
@@ -626,11 +735,11 @@ module _ (E : ℕ → Reader (Tall Expr)) (S : Reader (Tall Stmt))
   reserved_is from rest z h =
       ⊎_elim (λ p. branch_is from rest z p.1)
       (λ p. ⊎_elim (λ p. break_is from rest z p.1)
-        (λ p. ⊎_elim (λ p. continue_is from rest z p.1)
-          (λ p. ⊎_elim (λ p. return_is from rest z p.1) (λ p. repeated_is from rest z p.1)
-            (choice (sees row.Reserved (codes "return") from) _ _ (z, rest) p.1))
-          (choice (sees row.Reserved (codes "continue") from) _ _ (z, rest) p.1))
-        (choice (sees row.Reserved (codes "break") from) _ _ (z, rest) p.1))
+      (λ p. ⊎_elim (λ p. continue_is from rest z p.1)
+      (λ p. ⊎_elim (λ p. return_is from rest z p.1) (λ p. repeated_is from rest z p.1)
+      (choice (sees row.Reserved (codes "return") from) _ _ (z, rest) p.1))
+      (choice (sees row.Reserved (codes "continue") from) _ _ (z, rest) p.1))
+      (choice (sees row.Reserved (codes "break") from) _ _ (z, rest) p.1))
       (choice (sees row.Reserved (codes "if") from) _ _ (z, rest) h)
 
   pub one_stmt_is : (from rest : List Token) (z : Tall Stmt) → r.one_stmt E S from ≡ Some (z, rest) → StmtStands z from rest
@@ -638,7 +747,7 @@ module _ (E : ℕ → Reader (Tall Expr)) (S : Reader (Tall Stmt))
   one_stmt_is from rest z h =
       ⊎_elim (λ p. compound_is from rest z p.1)
       (λ p. ⊎_elim (λ p. reserved_is from rest z p.1)
-        (λ p. ⊎_elim (λ p. print_is from rest z p.1) (λ p. (simple_is from rest z p.1).1)
-          (choice (r.sees_print from) _ _ (z, rest) p.1))
-        (choice (sees_row row.Reserved from) _ _ (z, rest) p.1))
+      (λ p. ⊎_elim (λ p. print_is from rest z p.1) (λ p. (simple_is from rest z p.1).1)
+      (choice (r.sees_print from) _ _ (z, rest) p.1))
+      (choice (sees_row row.Reserved from) _ _ (z, rest) p.1))
       (choice (sees row.Mark (codes "{") from) _ _ (z, rest) h)

@@ -4,6 +4,9 @@
 
 ghost use Rattle.sy_reading.specs.Laws.{ReadExprsAreRuns, ReadBlocksAreBlocks};
 
+#[cfg(test)]
+mod tests;
+
 /// What is read is in the grammar. The contract is the law, and the body is empty.
 pub fn what_is_read_is_in_the_grammar()
     ensures expressions { ReadExprsAreRuns }

@@ -1,5 +1,5 @@
 use Rattle.std.proofs.Common.{◌≡◌, arith}
-use Rattle.sy_pexpr.specs.Reading.{readers, read_expr, read_stmt}
+use Rattle.sy_reading.specs.Reading.{readers, read_expr, read_stmt}
 use Rattle.sy_pexpr.proofs.Turns.{deeper}
 use Rattle.sy_pexpr.proofs.grammar.+parser.Goals as goal
 

@@ -1,9 +1,9 @@
 use Rattle.std.proofs.Common.{rules, arith}
 use Rattle.std.proofs.lemmas.Grind.{common_steps}
-use Rattle.sy_pexpr.specs.Exprs.{postfixes}
-use Rattle.sy_pexpr.specs.Reading.{read_expr, read_stmt}
+use Rattle.sy_reading.specs.Exprs.{postfixes}
+use Rattle.sy_reading.specs.Reading.{read_expr, read_stmt}
 use Rattle.sy_pexpr.proofs.Turns.{one_more, no_more}
-use Rattle.sy_pexpr.proofs.exprs.Grammar.postfixes.Goals as goal
+use Rattle.sy_pexpr.proofs.grammar.Grammar.postfixes.Goals as goal
 
 pub returns-then-binds-lt13 : goal.returns-then-binds-lt13
 unfolding postfixes

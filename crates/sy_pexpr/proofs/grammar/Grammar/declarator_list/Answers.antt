@@ -1,10 +1,10 @@
 use Rattle.std.proofs.Common.{rules, arith}
 use Rattle.std.proofs.lemmas.Grind.{common_steps}
-use Rattle.sy_pexpr.specs.Input.{listed}
-use Rattle.sy_pexpr.specs.Stmts.{one_declarator}
-use Rattle.sy_pexpr.specs.Reading.{read_expr, read_stmt}
+use Rattle.sy_reading.specs.Input.{listed}
+use Rattle.sy_reading.specs.Stmts.{one_declarator}
+use Rattle.sy_reading.specs.Reading.{read_expr, read_stmt}
 use Rattle.sy_pexpr.proofs.Turns.{one_more, no_more}
-use Rattle.sy_pexpr.proofs.stmts.Grammar.declarator_list.Goals as goal
+use Rattle.sy_pexpr.proofs.grammar.Grammar.declarator_list.Goals as goal
 
 pub returns-in_err-item : goal.returns-in_err-item
 unfolding listed

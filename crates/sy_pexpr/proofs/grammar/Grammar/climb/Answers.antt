@@ -1,9 +1,9 @@
 use Rattle.std.proofs.Common.{rules, arith}
 use Rattle.std.proofs.lemmas.Grind.{common_steps}
-use Rattle.sy_pexpr.specs.Exprs.{climb}
-use Rattle.sy_pexpr.specs.Reading.{read_expr, read_stmt}
+use Rattle.sy_reading.specs.Exprs.{climb}
+use Rattle.sy_reading.specs.Reading.{read_expr, read_stmt}
 use Rattle.sy_pexpr.proofs.Turns.{one_more, no_more}
-use Rattle.sy_pexpr.proofs.exprs.Grammar.climb.Goals as goal
+use Rattle.sy_pexpr.proofs.grammar.Grammar.climb.Goals as goal
 
 pub returns-then-binds-least : goal.returns-then-binds-least
 unfolding climb

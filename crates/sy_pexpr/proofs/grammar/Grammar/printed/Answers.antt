@@ -1,9 +1,9 @@
 use Rattle.std.proofs.Common.{rules, arith}
 use Rattle.std.proofs.lemmas.Grind.{common_steps}
-use Rattle.sy_pexpr.specs.Stmts.{printed}
-use Rattle.sy_pexpr.specs.Reading.{read_expr, read_stmt}
+use Rattle.sy_reading.specs.Stmts.{printed}
+use Rattle.sy_reading.specs.Reading.{read_expr, read_stmt}
 use Rattle.sy_pexpr.proofs.Turns.{one_more, no_more}
-use Rattle.sy_pexpr.proofs.stmts.Grammar.printed.Goals as goal
+use Rattle.sy_pexpr.proofs.grammar.Grammar.printed.Goals as goal
 
 pub returns-in_err-item : goal.returns-in_err-item
 unfolding printed

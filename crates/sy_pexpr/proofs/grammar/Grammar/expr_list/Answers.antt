@@ -1,9 +1,9 @@
 use Rattle.std.proofs.Common.{rules, arith}
 use Rattle.std.proofs.lemmas.Grind.{common_steps}
-use Rattle.sy_pexpr.specs.Input.{listed}
-use Rattle.sy_pexpr.specs.Reading.{read_expr}
+use Rattle.sy_reading.specs.Input.{listed}
+use Rattle.sy_reading.specs.Reading.{read_expr}
 use Rattle.sy_pexpr.proofs.Turns.{one_more, no_more}
-use Rattle.sy_pexpr.proofs.exprs.Grammar.expr_list.Goals as goal
+use Rattle.sy_pexpr.proofs.grammar.Grammar.expr_list.Goals as goal
 
 pub returns-in_err-item : goal.returns-in_err-item
 unfolding listed

@@ -1,0 +1,10 @@
+// The laws can be called.
+
+use super::*;
+use std::test::Fail;
+
+#[test]
+fn laws(_rt: HostRuntime) -> Result<(), Fail> {
+    what_is_read_is_in_the_grammar();
+    Ok(())
+}
