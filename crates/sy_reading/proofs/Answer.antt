@@ -1,9 +1,9 @@
 -- What the answer of a reader says of the tokens from a place on.
-use Rattle.std.proofs.Common.{◌≡◌, ℕ, ◌+◌, ◌-◌, ◌≤◌, ◌<◌, Bool, true, false, List, [], ◌∷◌, length, drop, Option, Some, None, refl, sym, ap, ◌∙◌, subst, arith, length-drop, drop-drop}
+use Rattle.std.proofs.Common.{◌≡◌, ℕ, ◌+◌, ◌-◌, ◌≤◌, true, List, length, drop, Some, ap, ◌∙◌, subst, arith, length-drop, drop-drop}
 use Rattle.sy_lex.specs.declared.Token.{Token}
 use Rattle.sy_tree.specs.declared.tree.Block.{Block}
 use Rattle.sy_tree.specs.declared.tree.Expr.{Expr}
-use Rattle.sy_tree.specs.Expressions.{Node, an_expr, a_block}
+use Rattle.sy_tree.specs.Expressions.{an_expr, a_block}
 use Rattle.sy_tree.specs.Grammar.{Derives, Passes}
 use Rattle.sy_tree.specs.Units.{IsRun, IsBlock, ends}
 use Rattle.sy_tree.proofs.Theorems.{Derives-taller, Derives-takes}

@@ -1,6 +1,6 @@
 -- Expressions that are read stand there, where what is read below does.
 use Prim.Native.String.{String}
-use Rattle.std.proofs.Common.{◌≡◌, ℕ, zero, suc, ◌+◌, ◌≤◌, ◌<◌, max, nat_lt, if◌then◌else◌, Bool, true, false, not, cond, ◌&&◌, List, [], ◌∷◌, ◌++◌, length, ◌⊎◌, inl, inr, ⊎_elim, Option, Some, None, refl, sym, ap, ◌∙◌, subst, arith, append_assoc, append-nil, add-one, le_trans, codes}
+use Rattle.std.proofs.Common.{◌≡◌, ℕ, zero, suc, ◌+◌, ◌≤◌, ◌<◌, max, nat_lt, Bool, true, false, cond, List, [], ◌∷◌, ⊎_elim, Option, Some, None, refl, sym, ap, ◌∙◌, subst, arith, add-one, codes}
 use Rattle.std.proofs.lemmas.Bool.{ltb-true, ltb-false}
 use Rattle.std.proofs.lemmas.Slice.Eq.{bytes_eq-Decides}
 use Rattle.std.specs.Str.{bytes_eq}
@@ -12,32 +12,29 @@ use Rattle.sy_num.specs.declared.UnOp.TheVariants as un
 use Rattle.sy_tree.specs.declared.operators.Operator.{Operator}
 use Rattle.sy_tree.specs.declared.parts.AccessTag.{AccessTag}
 use Rattle.sy_tree.specs.declared.parts.AccessTag.TheVariants as tag
-use Rattle.sy_tree.specs.declared.parts.Brackets.{Brackets}
 use Rattle.sy_tree.specs.declared.parts.FunctionObject.{FunctionObject}
 use Rattle.sy_tree.specs.declared.parts.FunctionObject.TheVariants as fun
 use Rattle.sy_tree.specs.declared.parts.IntegerType.{IntegerType}
-use Rattle.sy_tree.specs.declared.parts.Lexeme.{Lexeme}
 use Rattle.sy_tree.specs.declared.parts.LibraryFunction.{LibraryFunction}
 use Rattle.sy_tree.specs.declared.parts.LibraryFunction.TheVariants as lib
 use Rattle.sy_tree.specs.declared.parts.Qualified.{Qualified}
 use Rattle.sy_tree.specs.declared.parts.Step.{Step}
 use Rattle.sy_tree.specs.declared.tree.Argument.{Argument, out-Argument}
-use Rattle.sy_tree.specs.declared.tree.Argument.TheOpen.{Argument-F, Expr-F}
+use Rattle.sy_tree.specs.declared.tree.Argument.TheOpen.{Argument-F}
 use Rattle.sy_tree.specs.declared.tree.Argument.TheVariants as argument
-use Rattle.sy_tree.specs.declared.tree.Block.{Block, out-Block}
 use Rattle.sy_tree.specs.declared.tree.Expr.{Expr, out-Expr}
 use Rattle.sy_tree.specs.declared.tree.Expr.TheVariants as tree
-use Rattle.sy_tree.specs.declared.tree.Lambda.{Lambda, out-Lambda}
+use Rattle.sy_tree.specs.declared.tree.Lambda.{Lambda}
 use Rattle.sy_tree.specs.declared.tree.Stmt.{Stmt}
-use Rattle.sy_tree.specs.Expressions.{Node, an_expr, a_lambda, a_full, a_block, a_stmt, AnyExpr, ArgumentRule, OneArgument, BracketedArguments, ExprRule}
+use Rattle.sy_tree.specs.Expressions.{Node, an_expr, a_lambda, a_stmt, AnyExpr, ArgumentRule, OneArgument, ExprRule}
 use Rattle.sy_tree.specs.Grammar.{NodeRule, Derives}
 use Rattle.sy_tree.specs.Layers.{ArgumentLayer, ExprLayer}
-use Rattle.sy_tree.specs.Lists.{Rule, Optional, Each, Listed, MaybeListed}
-use Rattle.sy_tree.specs.Words.{At, Sees, Lexed, Sycl, mark, keyword, identifier, level, spelling, step_spelling, unary_spelling, opening, closing, tag_spelling, object_spelling, function_spelling}
-use Rattle.sy_tree.proofs.Maps.{Implies, Listed-map, MaybeListed-map}
+use Rattle.sy_tree.specs.Lists.{Optional, Listed, MaybeListed}
+use Rattle.sy_tree.specs.Words.{At, Sees, Sycl, mark, keyword, identifier, level, spelling, step_spelling, unary_spelling, tag_spelling, object_spelling, function_spelling}
+use Rattle.sy_tree.proofs.Maps.{Listed-map, MaybeListed-map}
 use Rattle.sy_tree.proofs.Theorems.{Derives-taller, Derives-looser}
 use Rattle.sy_reading.specs.Exprs as r
-use Rattle.sy_reading.specs.Input.{Reader, Tall, and_then, ◌>>=◌, ◌>>◌, pure, grown, expect, lexed, sees, sees_row, sees_namespace, mark_text, advance, after, eat, named, qualified, all_listed, maybe_listed}
+use Rattle.sy_reading.specs.Input.{Reader, Tall, grown, expect, lexed, sees, sees_row, sees_namespace, mark_text, advance, named, qualified, all_listed, maybe_listed}
 use Rattle.sy_reading.specs.Parts.{opened, closing_text, closed, empty_brackets, integral, one_word, object_by, maybe_template_argument}
 use Rattle.sy_reading.proofs.Steps.{bind_some, one, choice, which, finish, grew, word, expected, expects, lexed_is, all_listed_stand, maybe_listed_stand, placed, same_row_is, seen}
 use Rattle.sy_reading.proofs.PartsSound.{Library, library_is, library_name, opened_is, closed_is, empty_brackets_are, integral_is, one_word_integral_is, maybe_template_argument_is, object_by_is}

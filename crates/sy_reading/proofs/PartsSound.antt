@@ -1,11 +1,10 @@
 -- Parts that are read stand there.
 use Prim.Native.String.{String}
-use Rattle.std.proofs.Common.{◌≡◌, ℕ, zero, suc, ◌+◌, ◌≤◌, max, if◌then◌else◌, Bool, true, false, not, cond, ◌&&◌, List, [], ◌∷◌, ◌++◌, length, ◌⊎◌, inl, inr, ⊎_elim, Option, Some, None, IsTrue, refl, sym, ap, ◌∙◌, subst, arith, codes}
+use Rattle.std.proofs.Common.{◌≡◌, ℕ, if◌then◌else◌, Bool, true, false, cond, ◌&&◌, List, ◌∷◌, inl, inr, ⊎_elim, Option, Some, None, IsTrue, refl, ap, ◌∙◌, subst, codes}
 use Rattle.std.proofs.lemmas.Slice.Eq.{bytes_eq-Decides}
 use Rattle.std.specs.Str.{bytes_eq}
 use Rattle.sy_lex.specs.declared.Row.TheVariants as row
 use Rattle.sy_lex.specs.declared.Token.{Token}
-use Rattle.sy_lex.specs.declared.Word.{Word}
 use Rattle.sy_note.specs.declared.Spot.{Spot}
 use Rattle.sy_num.specs.declared.Kind.{Kind}
 use Rattle.sy_num.specs.declared.Kind.TheVariants as kind
@@ -28,13 +27,13 @@ use Rattle.sy_tree.specs.declared.parts.TemplateArgument.{TemplateArgument}
 use Rattle.sy_tree.specs.declared.parts.TemplateArgument.TheVariants as template
 use Rattle.sy_tree.specs.declared.parts.TypeSpecifier.{TypeSpecifier}
 use Rattle.sy_tree.specs.declared.parts.TypeSpecifier.TheVariants as specifier
-use Rattle.sy_tree.specs.Lists.{Rule, Maybe, Optional, MaybeListed}
+use Rattle.sy_tree.specs.Lists.{Rule, Optional, MaybeListed}
 use Rattle.sy_tree.specs.Types.{Integral, OneWordIntegral, TypeSpecified, ConstSpecified, Dimensions, CommaDimensions, Elements, Object, Captured, LambdaParameterTyped, OneLambdaParameter, LambdaParameters, OneTemplateArgument, TemplateArguments}
-use Rattle.sy_tree.specs.Words.{At, Sees, Lexed, Identifier, Sycl, Within, takes_template_argument, identifier, Spelled, SpelledAs, spellings, mark, keyword, opening, closing}
-use Rattle.sy_reading.specs.Input.{Reader, Tall, and_then, ◌>>=◌, ◌>>◌, pure, expect, lexed, sees, sees_row, sees_namespace, after, eat, named, within, qualified, maybe_listed}
+use Rattle.sy_tree.specs.Words.{At, Sees, Sycl, takes_template_argument, identifier, SpelledAs, spellings, mark, keyword, opening, closing}
+use Rattle.sy_reading.specs.Input.{Reader, Tall, ◌>>=◌, ◌>>◌, pure, expect, lexed, sees, sees_row, sees_namespace, after, eat, named, within, qualified, maybe_listed}
 use Rattle.sy_reading.specs.Parts as r
 use Rattle.sy_reading.specs.Tables.{fixed_width_of, keyword_of, one_word_of, plain_object_of, or_else}
-use Rattle.sy_reading.proofs.Steps.{bind_some, one, choice, which, word, expected, expects, lexed_is, seen, eaten, maybe_that, named_is, within_is, maybe_listed_stand, and_both, is_true, finish}
+use Rattle.sy_reading.proofs.Steps.{bind_some, one, choice, which, word, expected, expects, lexed_is, eaten, maybe_that, named_is, within_is, maybe_listed_stand, and_both, is_true, finish}
 
 -- ---- brackets
 

@@ -1,9 +1,9 @@
 -- What is read is in the grammar.
-use Rattle.std.proofs.Common.{◌≡◌, ℕ, zero, suc, ◌≤◌, List, Option, Some, None, arith}
+use Rattle.std.proofs.Common.{◌≡◌, ℕ, zero, suc, ◌≤◌, List, Some}
 use Rattle.sy_lex.specs.declared.Token.{Token}
 use Rattle.sy_tree.specs.declared.tree.Expr.{Expr}
 use Rattle.sy_tree.specs.declared.tree.Stmt.{Stmt}
-use Rattle.sy_reading.specs.Input.{Reader, Tall}
+use Rattle.sy_reading.specs.Input.{Tall}
 use Rattle.sy_reading.specs.Reading as r
 use Rattle.sy_reading.proofs.ExprSound.{ExprSound, StmtStands, chain_is}
 use Rattle.sy_reading.proofs.StmtSound.{one_lambda_is, one_stmt_is}

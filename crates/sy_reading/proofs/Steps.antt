@@ -1,5 +1,5 @@
 -- What a step that answered has found.
-use Rattle.std.proofs.Common.{◌≡◌, ℕ, zero, suc, ◌+◌, ◌≤◌, ◌<◌, max, nat_lt, if◌then◌else◌, Bool, true, false, not, cond, ◌&&◌, List, [], ◌∷◌, ◌++◌, length, ◌⊎◌, inl, inr, Option, Some, None, refl, sym, ap, ◌∙◌, subst, arith, append_assoc, IsTrue, codes}
+use Rattle.std.proofs.Common.{◌≡◌, ℕ, zero, suc, ◌+◌, ◌≤◌, ◌<◌, max, nat_lt, if◌then◌else◌, Bool, true, false, cond, ◌&&◌, List, [], ◌∷◌, ◌++◌, length, ◌⊎◌, inl, inr, Option, Some, None, refl, sym, ap, ◌∙◌, subst, arith, append_assoc, IsTrue, codes}
 use Rattle.std.proofs.lemmas.Bool.{ltb-true}
 use Rattle.std.proofs.lemmas.Slice.Eq.{bytes_eq-Decides}
 use Rattle.std.specs.Str.{bytes_eq}
@@ -12,8 +12,8 @@ use Rattle.sy_tree.specs.declared.parts.Lexeme.{Lexeme}
 use Rattle.sy_tree.specs.declared.parts.Qualified.{Qualified}
 use Rattle.sy_tree.specs.Lists.{Rule, Maybe, Listed, MaybeListed}
 use Rattle.sy_tree.specs.Qualification.{same_row}
-use Rattle.sy_tree.specs.Words.{At, Sees, Lexed, Within, mark, identifier}
-use Rattle.sy_reading.specs.Input.{Reader, Tall, pure, next, and_then, ◌>>=◌, ◌>>◌, is_word, sees, expect, lexed, after, eat, grown, listed, all_listed, maybe_listed, advance, named, within}
+use Rattle.sy_tree.specs.Words.{At, Sees, Lexed, mark}
+use Rattle.sy_reading.specs.Input.{Reader, Tall, pure, next, and_then, is_word, sees, expect, lexed, after, grown, listed, all_listed, maybe_listed, named, within}
 
 -- ---- readers in general
 

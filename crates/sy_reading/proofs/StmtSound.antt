@@ -1,6 +1,6 @@
 -- Blocks, lambdas, declarations and statements that are read stand there, where what is read below does.
 use Prim.Native.String.{String}
-use Rattle.std.proofs.Common.{◌≡◌, ℕ, zero, suc, ◌+◌, ◌≤◌, ◌<◌, max, nat_lt, if◌then◌else◌, Bool, true, false, not, cond, ◌&&◌, ◌||◌, List, [], ◌∷◌, ◌++◌, length, ◌⊎◌, inl, inr, ⊎_elim, Option, Some, None, refl, sym, ap, ◌∙◌, subst, arith, append_assoc, append-nil, add-one, codes}
+use Rattle.std.proofs.Common.{◌≡◌, ℕ, zero, suc, ◌≤◌, max, if◌then◌else◌, Bool, true, false, ◌||◌, List, [], ◌∷◌, ◌++◌, length, ⊎_elim, Option, Some, None, refl, sym, ap, ◌∙◌, subst, arith, append_assoc, append-nil, codes}
 use Rattle.std.proofs.lemmas.Slice.Eq.{bytes_eq-Decides}
 use Rattle.std.specs.Str.{bytes_eq}
 use Rattle.sy_lex.specs.declared.Row.TheVariants as row
@@ -13,38 +13,38 @@ use Rattle.sy_tree.specs.declared.parts.Brackets.TheVariants as brackets
 use Rattle.sy_tree.specs.declared.parts.Lexeme.{Lexeme}
 use Rattle.sy_tree.specs.declared.parts.Qualified.{Qualified}
 use Rattle.sy_tree.specs.declared.tree.Argument.{Argument}
-use Rattle.sy_tree.specs.declared.tree.Block.{Block, out-Block}
+use Rattle.sy_tree.specs.declared.tree.Block.{Block}
 use Rattle.sy_tree.specs.declared.tree.Declaration.{Declaration, out-Declaration}
 use Rattle.sy_tree.specs.declared.tree.Declaration.TheVariants as declaration
-use Rattle.sy_tree.specs.declared.tree.Declarator.{Declarator, out-Declarator}
+use Rattle.sy_tree.specs.declared.tree.Declarator.{Declarator}
 use Rattle.sy_tree.specs.declared.tree.Declarator.TheVariants as declarator
 use Rattle.sy_tree.specs.declared.tree.Expr.{Expr}
 use Rattle.sy_tree.specs.declared.tree.FullExpression.{FullExpression, out-FullExpression}
 use Rattle.sy_tree.specs.declared.tree.FullExpression.TheVariants as full
 use Rattle.sy_tree.specs.declared.tree.Initializer.{Initializer, out-Initializer}
 use Rattle.sy_tree.specs.declared.tree.Initializer.TheVariants as initializer
-use Rattle.sy_tree.specs.declared.tree.Lambda.{Lambda, out-Lambda}
+use Rattle.sy_tree.specs.declared.tree.Lambda.{Lambda}
 use Rattle.sy_tree.specs.declared.tree.Printed.{Printed, out-Printed}
 use Rattle.sy_tree.specs.declared.tree.Printed.TheVariants as item
 use Rattle.sy_tree.specs.declared.tree.Stmt.{Stmt, out-Stmt}
 use Rattle.sy_tree.specs.declared.tree.Stmt.TheVariants as t
 use Rattle.sy_tree.specs.Declarations.{IsNoFunction, OneDeclarator, Initialized, DeclarationRule}
-use Rattle.sy_tree.specs.Expressions.{Node, an_expr, a_lambda, a_full, a_block, a_stmt, AnyExpr, InParentheses, OneArgument, BracketedArguments}
+use Rattle.sy_tree.specs.Expressions.{an_expr, a_lambda, a_full, a_block, a_stmt, AnyExpr, InParentheses, OneArgument}
 use Rattle.sy_tree.specs.Grammar.{NodeRule, Derives}
 use Rattle.sy_tree.specs.Layers.{StmtLayer}
 use Rattle.sy_tree.specs.Lists.{Rule, Maybe, Optional, Each, OneOrMore, Listed, MaybeListed}
-use Rattle.sy_tree.specs.Statements.{IsInitStatement, InitStatement, Substatement, AnyFull, BlockRule, FullRule, PrintedRule, OnePrinted, StmtRule}
-use Rattle.sy_tree.specs.Types.{Captured, LambdaParameters, TypeSpecified, VectorOf}
-use Rattle.sy_tree.specs.Words.{At, Sees, Lexed, Identifier, Std, Sycl, mark, keyword, identifier, assignment_spelling, opening, closing}
-use Rattle.sy_tree.proofs.Maps.{Implies, Optional-map, OneDeclarator-map, Listed-map, MaybeListed-map}
+use Rattle.sy_tree.specs.Statements.{IsInitStatement, Substatement, AnyFull, FullRule, PrintedRule, OnePrinted, StmtRule}
+use Rattle.sy_tree.specs.Types.{TypeSpecified}
+use Rattle.sy_tree.specs.Words.{At, Sees, Identifier, Std, mark, keyword, identifier, assignment_spelling}
+use Rattle.sy_tree.proofs.Maps.{Optional-map, OneDeclarator-map, MaybeListed-map}
 use Rattle.sy_tree.proofs.Theorems.{Derives-taller}
 use Rattle.sy_reading.specs.Exprs as e
 use Rattle.sy_reading.specs.Stmts as r
-use Rattle.sy_reading.specs.Input.{Reader, Tall, and_then, ◌>>=◌, ◌>>◌, pure, next, grown, expect, lexed, sees, sees_row, sees_namespace, mark_text, advance, after, eat, named, within, qualified, all_listed, maybe_listed}
-use Rattle.sy_reading.specs.Parts.{one_capture, maybe_parameters, opened, closed, closing_text, integral, type_specifier, const_specifier, object_type, declares_object}
-use Rattle.sy_reading.proofs.Steps.{bind_some, one, choice, which, finish, grew, word, expected, expects, lexed_is, seen, eaten, maybe_that, within_is, named_is, all_listed_stand, maybe_listed_stand}
+use Rattle.sy_reading.specs.Input.{Reader, Tall, and_then, ◌>>=◌, next, grown, expect, lexed, sees, sees_row, sees_namespace, mark_text, advance, after, named, within, qualified, all_listed, maybe_listed}
+use Rattle.sy_reading.specs.Parts.{one_capture, maybe_parameters, opened, closed, integral, type_specifier, const_specifier, object_type, declares_object}
+use Rattle.sy_reading.proofs.Steps.{bind_some, one, choice, which, finish, grew, word, expected, expects, lexed_is, seen, eaten, within_is, named_is, all_listed_stand}
 use Rattle.sy_reading.proofs.PartsSound.{captures_are, maybe_parameters_are, opened_is, closed_is, integral_is, type_specifier_is, const_specifier_is, object_type_is}
-use Rattle.sy_reading.proofs.ExprSound.{ExprStands, ExprSound, StmtStands, node_built, argument_taller, arguments_stand, argument_list_stands, mark_there, mark_row}
+use Rattle.sy_reading.proofs.ExprSound.{ExprSound, StmtStands, node_built, argument_taller, arguments_stand, argument_list_stands, mark_there, mark_row}
 use Rattle.sy_reading.specs.Tables.{assignment_of}
 use Rattle.sy_tree.specs.declared.tree.Argument.TheOpen.{Initializer-F, Printed-F}
 use Rattle.sy_tree.specs.Layers.{InitializerLayer, PrintedLayer}

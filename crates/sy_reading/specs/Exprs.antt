@@ -1,5 +1,5 @@
 -- Readers of expressions, their arguments, and lambdas.
-use Rattle.std.specs.Prelude.{◌≡◌, ℕ, zero, suc, ◌+◌, max, Bool, true, false, not, ◌&&◌, ◌||◌, if◌then◌else◌, nat_lt, List, [], ◌∷◌, ◌++◌, length, Option, Some, None, codes}
+use Rattle.std.specs.Prelude.{ℕ, zero, suc, ◌+◌, max, Bool, true, false, not, ◌&&◌, ◌||◌, if◌then◌else◌, nat_lt, List, [], ◌∷◌, ◌++◌, length, Option, Some, None, codes}
 use Rattle.std.specs.Str.{bytes_eq}
 use Rattle.sy_lex.specs.declared.Row.TheVariants as row
 use Rattle.sy_lex.specs.declared.Token.{Token}
@@ -7,7 +7,6 @@ use Rattle.sy_note.specs.declared.Spot.{Spot}
 use Rattle.sy_num.specs.declared.UnOp.{UnOp}
 use Rattle.sy_tree.specs.declared.operators.Operator.{Operator}
 use Rattle.sy_tree.specs.declared.parts.AccessTag.{AccessTag}
-use Rattle.sy_tree.specs.declared.parts.Brackets.{Brackets}
 use Rattle.sy_tree.specs.declared.parts.FunctionObject.{FunctionObject}
 use Rattle.sy_tree.specs.declared.parts.IntegerType.{IntegerType}
 use Rattle.sy_tree.specs.declared.parts.Lexeme.{Lexeme}
@@ -22,7 +21,7 @@ use Rattle.sy_tree.specs.declared.tree.Expr.TheVariants as tree
 use Rattle.sy_tree.specs.declared.tree.Lambda.{Lambda}
 use Rattle.sy_tree.specs.declared.tree.Stmt.{Stmt}
 use Rattle.sy_tree.specs.Words.{level}
-use Rattle.sy_reading.specs.Input.{Reader, Tall, and_then, ◌>>=◌, ◌>>◌, pure, refuse, grown, next, sees, sees_row, sees_namespace, mark_text, expect, advance, lexed, after, eat, named, qualified, listed, all_listed, maybe_listed}
+use Rattle.sy_reading.specs.Input.{Reader, Tall, ◌>>=◌, ◌>>◌, pure, refuse, grown, next, sees, sees_row, sees_namespace, mark_text, expect, advance, lexed, named, qualified, all_listed, maybe_listed}
 use Rattle.sy_reading.specs.Parts.{opened, closing_text, closed, empty_brackets, integral, one_word, sees_type, object_by, one_capture, maybe_parameters, maybe_template_argument}
 use Rattle.sy_reading.specs.Tables.{unary_of, step_of, operator_of, tag_of, object_of, function_of}
 

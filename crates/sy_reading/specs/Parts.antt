@@ -1,5 +1,5 @@
 -- Readers of the parts that hold no expression: types, captures, parameters and template arguments.
-use Rattle.std.specs.Prelude.{◌≡◌, ℕ, zero, suc, ◌+◌, max, Bool, true, false, not, ◌&&◌, ◌||◌, if◌then◌else◌, List, [], ◌∷◌, ◌++◌, length, Option, Some, None, codes}
+use Rattle.std.specs.Prelude.{ℕ, Bool, true, false, ◌&&◌, if◌then◌else◌, List, [], ◌∷◌, Option, Some, None, codes}
 use Rattle.std.specs.Str.{bytes_eq}
 use Rattle.sy_lex.specs.declared.Row.TheVariants as row
 use Rattle.sy_lex.specs.declared.Token.{Token}
@@ -26,8 +26,8 @@ use Rattle.sy_tree.specs.declared.parts.TemplateArgument.TheVariants as template
 use Rattle.sy_tree.specs.declared.parts.TypeSpecifier.{TypeSpecifier}
 use Rattle.sy_tree.specs.declared.parts.TypeSpecifier.TheVariants as specifier
 use Rattle.sy_tree.specs.Words.{takes_template_argument}
-use Rattle.sy_reading.specs.Input.{Reader, Tall, and_then, ◌>>=◌, ◌>>◌, pure, refuse, next, sees, sees_row, sees_namespace, expect, lexed, after, eat, named, within, qualified, all_listed, maybe_listed}
-use Rattle.sy_reading.specs.Tables.{keyword_of, one_word_of, plain_object_of}
+use Rattle.sy_reading.specs.Input.{Reader, Tall, ◌>>=◌, ◌>>◌, pure, refuse, sees, sees_row, sees_namespace, expect, lexed, eat, named, within, qualified, maybe_listed}
+use Rattle.sy_reading.specs.Tables.{one_word_of, plain_object_of}
 
 -- ---- brackets
 

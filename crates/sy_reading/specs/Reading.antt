@@ -1,6 +1,5 @@
 -- Readers of whole expressions and statements.
-use Rattle.std.specs.Prelude.{◌≡◌, ℕ, zero, suc, List, Option, Some, None}
-use Rattle.sy_lex.specs.declared.Token.{Token}
+use Rattle.std.specs.Prelude.{ℕ, zero, suc}
 use Rattle.sy_tree.specs.declared.tree.Block.{Block}
 use Rattle.sy_tree.specs.declared.tree.Expr.{Expr}
 use Rattle.sy_tree.specs.declared.tree.Stmt.{Stmt}

@@ -1,5 +1,5 @@
 -- Readers of declarations and statements.
-use Rattle.std.specs.Prelude.{◌≡◌, ℕ, zero, suc, ◌+◌, max, Bool, true, false, not, ◌&&◌, ◌||◌, if◌then◌else◌, List, [], ◌∷◌, ◌++◌, length, Option, Some, None, codes}
+use Rattle.std.specs.Prelude.{ℕ, zero, suc, max, Bool, not, ◌&&◌, ◌||◌, if◌then◌else◌, List, [], ◌∷◌, ◌++◌, length, Option, Some, None, codes}
 use Rattle.std.specs.Str.{bytes_eq}
 use Rattle.sy_lex.specs.declared.Row.TheVariants as row
 use Rattle.sy_lex.specs.declared.Token.{Token}
@@ -24,8 +24,8 @@ use Rattle.sy_tree.specs.declared.tree.Printed.{Printed}
 use Rattle.sy_tree.specs.declared.tree.Printed.TheVariants as item
 use Rattle.sy_tree.specs.declared.tree.Stmt.{Stmt}
 use Rattle.sy_tree.specs.declared.tree.Stmt.TheVariants as t
-use Rattle.sy_reading.specs.Input.{Reader, Tall, and_then, ◌>>=◌, ◌>>◌, pure, refuse, grown, next, sees, sees_row, sees_namespace, mark_text, expect, advance, lexed, after, eat, named, within, qualified, listed, all_listed}
-use Rattle.sy_reading.specs.Parts.{opened, closing_text, closed, integral, sees_type, type_specifier, const_specifier, object_type, declares_object}
+use Rattle.sy_reading.specs.Input.{Reader, Tall, ◌>>=◌, ◌>>◌, pure, refuse, grown, next, sees, sees_row, sees_namespace, mark_text, expect, advance, lexed, eat, named, within, qualified, all_listed}
+use Rattle.sy_reading.specs.Parts.{opened, closed, integral, sees_type, type_specifier, const_specifier, object_type, declares_object}
 use Rattle.sy_reading.specs.Tables.{assignment_of}
 use Rattle.sy_reading.specs.Exprs.{one_block, one_lambda, one_argument, arguments}
 

@@ -1,7 +1,6 @@
 -- What the texts of words stand for.
-use Rattle.std.specs.Prelude.{◌≡◌, ℕ, Bool, true, false, ◌||◌, if◌then◌else◌, List, [], ◌∷◌, Option, Some, None, codes}
+use Rattle.std.specs.Prelude.{ℕ, if◌then◌else◌, List, Option, Some, None, codes}
 use Rattle.std.specs.Str.{bytes_eq}
-use Rattle.sy_num.specs.declared.BinOp.{BinOp}
 use Rattle.sy_num.specs.declared.BinOp.TheVariants as bin
 use Rattle.sy_num.specs.declared.Kind.{Kind}
 use Rattle.sy_num.specs.declared.Kind.TheVariants as kind
