@@ -1,6 +1,7 @@
 pub mod Answer
 pub mod ExprSound
 pub mod PartsSound
+pub mod ReadSteps
 pub mod Sound
 pub mod Steps
 pub mod StmtSound
