@@ -1,5 +1,6 @@
 pub mod Answer
 pub mod ExprSound
+pub mod PartsRead
 pub mod PartsSound
 pub mod ReadSteps
 pub mod Sound
