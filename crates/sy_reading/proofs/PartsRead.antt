@@ -387,30 +387,39 @@ pub sycl_read : (w : String) (q : Qualified) (from m : List Token) → Sycl w q 
 unfolding identifier mark
 sycl_read w q from m h = named_at (codes "sycl") (codes w) q from h.0 h.1 m h.2 h.3 h.4
 
+-- what is said of each name of an object's type
+abbrev pub OfNames : (List ℕ → Type 0) → Type 0
+OfNames P = P (codes "queue") × P (codes "device") × P (codes "context") × P (codes "event") × P (codes "accessor") × P (codes "host_accessor")
+    × P (codes "local_accessor") × P (codes "buffer") × P (codes "range") × P (codes "id") × P (codes "nd_range")
+
 -- the name of an object's type, and what is read behind it
+abbrev pub NamedObject : (List ℕ → Type 0) → ObjectType → List Token → List Token → Type 0
+NamedObject P t from rest = (text : List ℕ) × (p : Qualified) × (m : List Token) × P text × (named (codes "sycl") from ≡ Some ((p.namespace, record { spot = p.name; text = text }), m)) × (r.object_by p text m ≡ Some (t, rest))
 
-of_name : (w : String) (q : Qualified) (t : ObjectType) (from m rest : List Token) → Sycl w q from m → r.object_by q (codes w) m ≡ Some (t, rest) →
-    (text : List ℕ) × (p : Qualified) × (m : List Token) × (named (codes "sycl") from ≡ Some ((p.namespace, record { spot = p.name; text = text }), m)) × (r.object_by p text m ≡ Some (t, rest))
-of_name w q t from m rest h e = (codes w, q, m, sycl_read w q from m h, e)
+module _ (P : List ℕ → Type 0) (all : OfNames P) where
+  of_name : (w : String) (q : Qualified) (t : ObjectType) (from m rest : List Token) → P (codes w) → Sycl w q from m → r.object_by q (codes w) m ≡ Some (t, rest) → NamedObject P t from rest
+  of_name w q t from m rest p h e = (codes w, q, m, p, sycl_read w q from m h, e)
 
-pub object_named : (t : ObjectType) (from rest : List Token) → sees row.Mark (codes "<") rest ≡ false → Object t from rest →
-    (text : List ℕ) × (p : Qualified) × (m : List Token) × (named (codes "sycl") from ≡ Some ((p.namespace, record { spot = p.name; text = text }), m)) × (r.object_by p text m ≡ Some (t, rest))
-unfolding r.object_by plain_object_of r.template_object
-object_named (object.Queue q) from rest e h = of_name "queue" q (object.Queue q) from rest rest h refl
-object_named (object.Device q) from rest e h = of_name "device" q (object.Device q) from rest rest h refl
-object_named (object.Context q) from rest e h = of_name "context" q (object.Context q) from rest rest h refl
-object_named (object.Event q) from rest e h = of_name "event" q (object.Event q) from rest rest h refl
-object_named (object.Accessor q) from rest e h = of_name "accessor" q (object.Accessor q) from rest rest h refl
-object_named (object.HostAccessor q) from rest e h = of_name "host_accessor" q (object.HostAccessor q) from rest rest h refl
-object_named (object.LocalAccessor q x) from rest e h = of_name "local_accessor" q (object.LocalAccessor q x) from h.0 rest h.1 (rw (elements_read x h.0 rest h.2) refl)
-object_named (object.Buffer q x) from rest e h = of_name "buffer" q (object.Buffer q x) from h.0 rest h.1 (rw (maybe_elements_read x h.0 rest e h.2) refl)
-object_named (object.Range q x) from rest e h = of_name "range" q (object.Range q x) from h.0 rest h.1 (rw (maybe_dimensions_read x h.0 rest e h.2) refl)
-object_named (object.Id q x) from rest e h = of_name "id" q (object.Id q x) from h.0 rest h.1 (rw (maybe_dimensions_read x h.0 rest e h.2) refl)
-object_named (object.NdRange q x) from rest e h = of_name "nd_range" q (object.NdRange q x) from h.0 rest h.1 (rw (maybe_dimensions_read x h.0 rest e h.2) refl)
+  pub object_named : (t : ObjectType) (from rest : List Token) → sees row.Mark (codes "<") rest ≡ false → Object t from rest → NamedObject P t from rest
+  unfolding r.object_by plain_object_of r.template_object
+  object_named (object.Queue q) from rest e h = of_name "queue" q (object.Queue q) from rest rest all.0 h refl
+  object_named (object.Device q) from rest e h = of_name "device" q (object.Device q) from rest rest all.1 h refl
+  object_named (object.Context q) from rest e h = of_name "context" q (object.Context q) from rest rest all.2 h refl
+  object_named (object.Event q) from rest e h = of_name "event" q (object.Event q) from rest rest all.3 h refl
+  object_named (object.Accessor q) from rest e h = of_name "accessor" q (object.Accessor q) from rest rest all.4 h refl
+  object_named (object.HostAccessor q) from rest e h = of_name "host_accessor" q (object.HostAccessor q) from rest rest all.5 h refl
+  object_named (object.LocalAccessor q x) from rest e h = of_name "local_accessor" q (object.LocalAccessor q x) from h.0 rest all.6 h.1 (rw (elements_read x h.0 rest h.2) refl)
+  object_named (object.Buffer q x) from rest e h = of_name "buffer" q (object.Buffer q x) from h.0 rest all.7 h.1 (rw (maybe_elements_read x h.0 rest e h.2) refl)
+  object_named (object.Range q x) from rest e h = of_name "range" q (object.Range q x) from h.0 rest all.8 h.1 (rw (maybe_dimensions_read x h.0 rest e h.2) refl)
+  object_named (object.Id q x) from rest e h = of_name "id" q (object.Id q x) from h.0 rest all.9 h.1 (rw (maybe_dimensions_read x h.0 rest e h.2) refl)
+  object_named (object.NdRange q x) from rest e h = of_name "nd_range" q (object.NdRange q x) from h.0 rest all.10 h.1 (rw (maybe_dimensions_read x h.0 rest e h.2) refl)
+
+abbrev AnyName : List ℕ → Type 0
+AnyName text = Unit
 
 pub object_read : (t : ObjectType) (from rest : List Token) → sees row.Mark (codes "<") rest ≡ false → Object t from rest → r.object_type from ≡ Some (t, rest)
 unfolding r.object_type
-object_read t from rest e h = let n = object_named t from rest e h in rw n.3 n.4
+object_read t from rest e h = let n = object_named AnyName (tt, tt, tt, tt, tt, tt, tt, tt, tt, tt, tt) t from rest e h in rw n.4 n.5
 
 -- ---- lambdas
 
@@ -513,7 +522,7 @@ maybe_parameters_read (Some ps) from rest e h =
 
 -- ---- template arguments of members
 
-and_no : (a : Bool) → (a && false) ≡ false
+pub and_no : (a : Bool) → (a && false) ≡ false
 and_no true = refl
 and_no false = refl
 

@@ -107,21 +107,22 @@ passed {n} {from} p = omega (arith, ap length p.is, length-drop p.taken from)
 abbrev pub ReadsAs : {A : Type 0} → Option (Tall A × List Token) → ℕ → A → List Token → Type 0
 ReadsAs {A} answer m x rest = (h : ℕ) × (h ≤ m) × (answer ≡ Some ((x, h), rest))
 
-module _ {A : Type 0} (item : Reader (Tall A)) (P : Rule A) (m : ℕ) (Ends : List Token → Type 0)
-    (short : (x : A) (from rest : List Token) → P x from rest → length rest ≤ length from)
-    (reads : (x : A) (from rest : List Token) → P x from rest → Ends rest → ReadsAs (item from) m x rest)
-    (comma : (us ts : List Token) → Sees (mark ",") us ts → Ends us) where
+module _ {A : Type 0} (P : Rule A) (short : (x : A) (from rest : List Token) → P x from rest → length rest ≤ length from) where
   pub list_short : (xs : List A) (from rest : List Token) → Listed P xs from rest → length rest ≤ length from
   list_short [] from rest d = absurd d
   list_short (x ∷ []) from rest d = short x from rest d
   list_short (x ∷ y ∷ more) from rest d = omega (arith, short x from d.0 d.2, at_length d.3.1, list_short (y ∷ more) d.1 rest d.4)
 
+module _ {A : Type 0} (item : Reader (Tall A)) (P : Rule A) (m : ℕ) (Ends : List Token → Type 0)
+    (short : (x : A) (from rest : List Token) → P x from rest → length rest ≤ length from)
+    (reads : (x : A) (from rest : List Token) → P x from rest → Ends rest → ReadsAs (item from) m x rest)
+    (comma : (us ts : List Token) → Sees (mark ",") us ts → Ends us) where
   -- a list, after the items xs of a height of at most h
   list_reads : (t h : ℕ) (xs ys : List A) (from rest : List Token) → h ≤ m → length from ≤ t → 0 < length rest → Listed P ys from rest → Ends rest → sees row.Mark (codes ",") rest ≡ false →
       ReadsAs (listed item t xs h from) m (xs ++ ys) rest
   unfolding listed mark
   list_reads t h xs [] from rest lh lt some d e c = absurd d
-  list_reads zero h xs (x ∷ ys) from rest lh lt some d e c = absurd (omega (arith, list_short (x ∷ ys) from rest d))
+  list_reads zero h xs (x ∷ ys) from rest lh lt some d e c = absurd (omega (arith, list_short P short (x ∷ ys) from rest d))
   list_reads (suc t) h xs (x ∷ []) from rest lh lt some d e c =
       let first = reads x from rest d e in
       (max h first.0, omega (arith, first.1), rw (first.2, c, after_none row.Mark (codes ",") rest c) refl)

@@ -1,0 +1,422 @@
+-- Expressions that stand there are read, where what stands below is.
+use Rattle.std.proofs.Common.{◌≡◌, ℕ, zero, suc, ◌+◌, ◌-◌, ◌≤◌, ◌<◌, max, nat_lt, not, Bool, true, false, cond, ◌&&◌, List, [], ◌∷◌, ◌++◌, length, ◌⊎◌, inl, inr, ⊎_elim, Option, Some, None, refl, sym, ap, ◌∙◌, subst, arith, append_assoc, lt-ltb, le-ltb, codes}
+use Prim.Native.String.{String}
+use Rattle.std.proofs.lemmas.Bool.{ltb-true, ltb-false}
+use Rattle.std.proofs.lemmas.Slice.Eq.{bytes_eq-Decides}
+use Rattle.std.specs.Str.{bytes_eq}
+use Rattle.sy_lex.specs.declared.Row.TheVariants as row
+use Rattle.sy_lex.specs.declared.Token.{Token}
+use Rattle.sy_note.specs.declared.Spot.{Spot}
+use Rattle.sy_num.specs.declared.UnOp.{UnOp}
+use Rattle.sy_num.specs.declared.UnOp.TheVariants as un
+use Rattle.sy_tree.specs.declared.operators.Operator.{Operator}
+use Rattle.sy_tree.specs.declared.parts.AccessTag.{AccessTag}
+use Rattle.sy_tree.specs.declared.parts.AccessTag.TheVariants as tag
+use Rattle.sy_tree.specs.declared.parts.FunctionObject.{FunctionObject}
+use Rattle.sy_tree.specs.declared.parts.FunctionObject.TheVariants as fun
+use Rattle.sy_tree.specs.declared.parts.IntegerType.{IntegerType}
+use Rattle.sy_tree.specs.declared.parts.LibraryFunction.{LibraryFunction}
+use Rattle.sy_tree.specs.declared.parts.LibraryFunction.TheVariants as lib
+use Rattle.sy_tree.specs.declared.parts.Qualified.{Qualified}
+use Rattle.sy_tree.specs.declared.parts.Step.{Step}
+use Rattle.sy_tree.specs.declared.tree.Argument.{Argument, out-Argument, roll-Argument, roll-out-Argument}
+use Rattle.sy_tree.specs.declared.tree.Argument.TheOpen.{Argument-F, Expr-F}
+use Rattle.sy_tree.specs.declared.tree.Argument.TheVariants as argument
+use Rattle.sy_tree.specs.declared.tree.Expr.{Expr, out-Expr, roll-Expr, roll-out-Expr}
+use Rattle.sy_tree.specs.declared.tree.Expr.TheVariants as tree
+use Rattle.sy_tree.specs.declared.tree.Lambda.{Lambda}
+use Rattle.sy_tree.specs.declared.tree.Stmt.{Stmt}
+use Rattle.sy_tree.specs.Expressions.{Node, an_expr, a_lambda, a_stmt, AnyExpr, ArgumentRule, OneArgument, ExprRule}
+use Rattle.sy_tree.specs.Grammar.{NodeRule, Derives}
+use Rattle.sy_tree.specs.Layers.{ArgumentLayer, ExprLayer}
+use Rattle.sy_tree.specs.Lists.{Optional, Listed, MaybeListed}
+use Rattle.sy_tree.specs.Words.{At, Sees, Sycl, mark, keyword, identifier, level, spelling, step_spelling, unary_spelling, tag_spelling, object_spelling, function_spelling}
+use Rattle.sy_tree.proofs.Theorems.{Derives-taller, Derives-looser}
+use Rattle.sy_reading.specs.Exprs as r
+use Rattle.sy_reading.specs.Input.{Reader, Tall, grown, expect, lexed, sees, sees_row, sees_namespace, mark_text, advance, named, qualified, all_listed, maybe_listed}
+use Rattle.sy_reading.specs.Parts.{opened, closing_text, closed, empty_brackets, integral, one_word, object_by, maybe_template_argument}
+use Rattle.sy_reading.specs.Tables.{tag_of, object_of, function_of, unary_of, step_of, operator_of, or_else, arithmetic_of, comparison_of, bitwise_of, logical_of}
+use Rattle.sy_tree.specs.Qualification.{same_row}
+use Rattle.sy_num.specs.declared.BinOp.{BinOp}
+use Rattle.sy_num.specs.declared.BinOp.TheVariants as bin
+use Rattle.sy_tree.specs.declared.operators.Operator.TheVariants as operator
+use Rattle.sy_tree.specs.declared.parts.Step.TheVariants as step
+use Rattle.sy_tree.specs.Types.{Integral}
+use Rattle.sy_lex.specs.declared.Row.{Row}
+use Rattle.sy_lex.specs.declared.Word.{Word}
+use Rattle.sy_tree.specs.declared.tree.Block.{Block, out-Block, roll-Block, roll-out-Block}
+use Rattle.sy_tree.specs.declared.tree.Lambda.{out-Lambda, roll-Lambda, roll-out-Lambda}
+use Rattle.sy_tree.specs.declared.parts.Brackets.{Brackets}
+use Rattle.sy_tree.specs.declared.parts.Brackets.TheVariants as brackets
+use Rattle.sy_tree.specs.Beginnings.{opens, opens_expr, first}
+use Rattle.sy_tree.specs.Expressions.{a_block, BracketedArguments}
+use Rattle.sy_tree.specs.Lists.{Rule, Each}
+use Rattle.sy_tree.specs.Statements.{Substatement}
+use Rattle.sy_tree.specs.Types.{OneWordIntegral, Object}
+use Rattle.sy_tree.specs.declared.parts.ObjectType.{ObjectType}
+use Rattle.sy_tree.specs.declared.parts.ObjectType.TheVariants as object
+use Rattle.sy_tree.specs.Words.{opening, closing}
+use Rattle.sy_tree.proofs.Theorems.{Derives-takes, Derives-begins}
+use Rattle.sy_reading.specs.Input.{next, is_word}
+use Rattle.sy_reading.specs.Parts.{sees_type, is_some, one_capture, maybe_parameters}
+use Rattle.sy_reading.specs.Tables.{one_word_of, keyword_of, fixed_width_of}
+use Rattle.sy_reading.proofs.Steps.{word, is_that, seen, and_both, same_row_is}
+use Rattle.sy_reading.proofs.ReadSteps.{sees_at, next_at, expect_at, sees_other, row_at, no_row, lexed_at, grows, at_length, passed, ReadsAs, list_short, all_listed_read, maybe_listed_read}
+use Rattle.sy_reading.proofs.PartsRead.{and_no, opened_read, closed_read, empty_brackets_read, integral_read, integral_type, one_word_read, not_type, sycl_read, OfNames, object_named, captures_read, maybe_parameters_read, maybe_template_argument_read, namespace_at}
+
+-- ---- trees from their layers
+
+abbrev pub made : ExprLayer → Expr
+made (Expr-F.Integer x) = tree.Integer x
+made (Expr-F.Character x) = tree.Character x
+made (Expr-F.Boolean s b) = tree.Boolean s b
+made (Expr-F.Name x) = tree.Name x
+made (Expr-F.Call f xs e) = tree.Call f xs e
+made (Expr-F.Parenthesized s x e) = tree.Parenthesized s x e
+made (Expr-F.StaticCast s t x e) = tree.StaticCast s t x e
+made (Expr-F.FunctionalCast t x e) = tree.FunctionalCast t x e
+made (Expr-F.Construct t b s xs e) = tree.Construct t b s xs e
+made (Expr-F.GroupBarrier q x e) = tree.GroupBarrier q x e
+made (Expr-F.AccessTag q t) = tree.AccessTag q t
+made (Expr-F.InOrder q b e) = tree.InOrder q b e
+made (Expr-F.ErrorCode q x) = tree.ErrorCode q x
+made (Expr-F.InitializeToIdentity q b e) = tree.InitializeToIdentity q b e
+made (Expr-F.FunctionObject q f t b e) = tree.FunctionObject q f t b e
+made (Expr-F.LibraryCall q f xs e) = tree.LibraryCall q f xs e
+made (Expr-F.Subscript a s x e) = tree.Subscript a s x e
+made (Expr-F.MemberCall a x t xs e) = tree.MemberCall a x t xs e
+made (Expr-F.Postfix a s o) = tree.Postfix a s o
+made (Expr-F.Prefix s o a) = tree.Prefix s o a
+made (Expr-F.Unary s o a) = tree.Unary s o a
+made (Expr-F.Cast s t a) = tree.Cast s t a
+made (Expr-F.Binary a s o b) = tree.Binary a s o b
+made (Expr-F.Conditional a s b c) = tree.Conditional a s b c
+
+made_roll : (y : ExprLayer) → made y ≡ roll-Expr y
+made_roll (Expr-F.Integer x) = sym (tree.rolls-Integer x)
+made_roll (Expr-F.Character x) = sym (tree.rolls-Character x)
+made_roll (Expr-F.Boolean s b) = sym (tree.rolls-Boolean s b)
+made_roll (Expr-F.Name x) = sym (tree.rolls-Name x)
+made_roll (Expr-F.Call f xs e) = sym (tree.rolls-Call f xs e)
+made_roll (Expr-F.Parenthesized s x e) = sym (tree.rolls-Parenthesized s x e)
+made_roll (Expr-F.StaticCast s t x e) = sym (tree.rolls-StaticCast s t x e)
+made_roll (Expr-F.FunctionalCast t x e) = sym (tree.rolls-FunctionalCast t x e)
+made_roll (Expr-F.Construct t b s xs e) = sym (tree.rolls-Construct t b s xs e)
+made_roll (Expr-F.GroupBarrier q x e) = sym (tree.rolls-GroupBarrier q x e)
+made_roll (Expr-F.AccessTag q t) = sym (tree.rolls-AccessTag q t)
+made_roll (Expr-F.InOrder q b e) = sym (tree.rolls-InOrder q b e)
+made_roll (Expr-F.ErrorCode q x) = sym (tree.rolls-ErrorCode q x)
+made_roll (Expr-F.InitializeToIdentity q b e) = sym (tree.rolls-InitializeToIdentity q b e)
+made_roll (Expr-F.FunctionObject q f t b e) = sym (tree.rolls-FunctionObject q f t b e)
+made_roll (Expr-F.LibraryCall q f xs e) = sym (tree.rolls-LibraryCall q f xs e)
+made_roll (Expr-F.Subscript a s x e) = sym (tree.rolls-Subscript a s x e)
+made_roll (Expr-F.MemberCall a x t xs e) = sym (tree.rolls-MemberCall a x t xs e)
+made_roll (Expr-F.Postfix a s o) = sym (tree.rolls-Postfix a s o)
+made_roll (Expr-F.Prefix s o a) = sym (tree.rolls-Prefix s o a)
+made_roll (Expr-F.Unary s o a) = sym (tree.rolls-Unary s o a)
+made_roll (Expr-F.Cast s t a) = sym (tree.rolls-Cast s t a)
+made_roll (Expr-F.Binary a s o b) = sym (tree.rolls-Binary a s o b)
+made_roll (Expr-F.Conditional a s b c) = sym (tree.rolls-Conditional a s b c)
+
+pub made_out : (x : Expr) → made (out-Expr x) ≡ x
+made_out x = made_roll (out-Expr x) ∙ roll-out-Expr x
+
+abbrev argued : ArgumentLayer → Argument
+argued (Argument-F.Value x) = argument.Value x
+argued (Argument-F.Braced s xs e) = argument.Braced s xs e
+argued (Argument-F.Lambda l) = argument.Lambda l
+
+argued_roll : (y : ArgumentLayer) → argued y ≡ roll-Argument y
+argued_roll (Argument-F.Value x) = sym (argument.rolls-Value x)
+argued_roll (Argument-F.Braced s xs e) = sym (argument.rolls-Braced s xs e)
+argued_roll (Argument-F.Lambda l) = sym (argument.rolls-Lambda l)
+
+argued_out : (x : Argument) → argued (out-Argument x) ≡ x
+argued_out x = argued_roll (out-Argument x) ∙ roll-out-Argument x
+
+-- ---- the tables
+
+operator_row : (o : Operator) → operator_of (codes (spelling o)) ≡ Some o
+unfolding operator_of arithmetic_of comparison_of bitwise_of logical_of
+operator_row (operator.Strict bin.Add) = refl
+operator_row (operator.Strict bin.Sub) = refl
+operator_row (operator.Strict bin.Mul) = refl
+operator_row (operator.Strict bin.Div) = refl
+operator_row (operator.Strict bin.Rem) = refl
+operator_row (operator.Strict bin.Shl) = refl
+operator_row (operator.Strict bin.Shr) = refl
+operator_row (operator.Strict bin.And) = refl
+operator_row (operator.Strict bin.Or) = refl
+operator_row (operator.Strict bin.Xor) = refl
+operator_row (operator.Strict bin.Eq) = refl
+operator_row (operator.Strict bin.Ne) = refl
+operator_row (operator.Strict bin.Lt) = refl
+operator_row (operator.Strict bin.Le) = refl
+operator_row (operator.Strict bin.Gt) = refl
+operator_row (operator.Strict bin.Ge) = refl
+operator_row operator.LogicalAnd = refl
+operator_row operator.LogicalOr = refl
+
+no_question : (o : Operator) → is_word row.Mark (codes "?") (word row.Mark (codes (spelling o))) ≡ false
+no_question (operator.Strict bin.Add) = refl
+no_question (operator.Strict bin.Sub) = refl
+no_question (operator.Strict bin.Mul) = refl
+no_question (operator.Strict bin.Div) = refl
+no_question (operator.Strict bin.Rem) = refl
+no_question (operator.Strict bin.Shl) = refl
+no_question (operator.Strict bin.Shr) = refl
+no_question (operator.Strict bin.And) = refl
+no_question (operator.Strict bin.Or) = refl
+no_question (operator.Strict bin.Xor) = refl
+no_question (operator.Strict bin.Eq) = refl
+no_question (operator.Strict bin.Ne) = refl
+no_question (operator.Strict bin.Lt) = refl
+no_question (operator.Strict bin.Le) = refl
+no_question (operator.Strict bin.Gt) = refl
+no_question (operator.Strict bin.Ge) = refl
+no_question operator.LogicalAnd = refl
+no_question operator.LogicalOr = refl
+
+no_colons : (o : Operator) → is_word row.Mark (codes "::") (word row.Mark (codes (spelling o))) ≡ false
+no_colons (operator.Strict bin.Add) = refl
+no_colons (operator.Strict bin.Sub) = refl
+no_colons (operator.Strict bin.Mul) = refl
+no_colons (operator.Strict bin.Div) = refl
+no_colons (operator.Strict bin.Rem) = refl
+no_colons (operator.Strict bin.Shl) = refl
+no_colons (operator.Strict bin.Shr) = refl
+no_colons (operator.Strict bin.And) = refl
+no_colons (operator.Strict bin.Or) = refl
+no_colons (operator.Strict bin.Xor) = refl
+no_colons (operator.Strict bin.Eq) = refl
+no_colons (operator.Strict bin.Ne) = refl
+no_colons (operator.Strict bin.Lt) = refl
+no_colons (operator.Strict bin.Le) = refl
+no_colons (operator.Strict bin.Gt) = refl
+no_colons (operator.Strict bin.Ge) = refl
+no_colons operator.LogicalAnd = refl
+no_colons operator.LogicalOr = refl
+
+pub level_bounds : (o : Operator) → (2 ≤ level o) × (level o ≤ 11)
+level_bounds (operator.Strict bin.Add) = (omega arith, omega arith)
+level_bounds (operator.Strict bin.Sub) = (omega arith, omega arith)
+level_bounds (operator.Strict bin.Mul) = (omega arith, omega arith)
+level_bounds (operator.Strict bin.Div) = (omega arith, omega arith)
+level_bounds (operator.Strict bin.Rem) = (omega arith, omega arith)
+level_bounds (operator.Strict bin.Shl) = (omega arith, omega arith)
+level_bounds (operator.Strict bin.Shr) = (omega arith, omega arith)
+level_bounds (operator.Strict bin.And) = (omega arith, omega arith)
+level_bounds (operator.Strict bin.Or) = (omega arith, omega arith)
+level_bounds (operator.Strict bin.Xor) = (omega arith, omega arith)
+level_bounds (operator.Strict bin.Eq) = (omega arith, omega arith)
+level_bounds (operator.Strict bin.Ne) = (omega arith, omega arith)
+level_bounds (operator.Strict bin.Lt) = (omega arith, omega arith)
+level_bounds (operator.Strict bin.Le) = (omega arith, omega arith)
+level_bounds (operator.Strict bin.Gt) = (omega arith, omega arith)
+level_bounds (operator.Strict bin.Ge) = (omega arith, omega arith)
+level_bounds operator.LogicalAnd = (omega arith, omega arith)
+level_bounds operator.LogicalOr = (omega arith, omega arith)
+
+step_row : (o : Step) → step_of (codes (step_spelling o)) ≡ Some o
+unfolding step_of
+step_row step.Increment = refl
+step_row step.Decrement = refl
+
+unary_row : (o : UnOp) → (step_of (codes (unary_spelling o)) ≡ None) × (unary_of (codes (unary_spelling o)) ≡ Some o)
+unfolding step_of unary_of
+unary_row un.Plus = (refl, refl)
+unary_row un.Minus = (refl, refl)
+unary_row un.Not = (refl, refl)
+unary_row un.Flip = (refl, refl)
+
+tag_row : (t : AccessTag) → tag_of (codes (tag_spelling t)) ≡ Some t
+unfolding tag_of
+tag_row tag.ReadOnly = refl
+tag_row tag.WriteOnly = refl
+tag_row tag.ReadWrite = refl
+tag_row tag.NoInit = refl
+
+object_row : (f : FunctionObject) → (tag_of (codes (object_spelling f)) ≡ None) × (object_of (codes (object_spelling f)) ≡ Some f)
+unfolding tag_of object_of
+object_row fun.Plus = (refl, refl)
+object_row fun.Multiplies = (refl, refl)
+object_row fun.Minimum = (refl, refl)
+object_row fun.Maximum = (refl, refl)
+object_row fun.BitAnd = (refl, refl)
+object_row fun.BitOr = (refl, refl)
+object_row fun.BitXor = (refl, refl)
+
+function_row : (f : LibraryFunction) → (tag_of (codes (function_spelling f)) ≡ None) × (object_of (codes (function_spelling f)) ≡ None) × (function_of (codes (function_spelling f)) ≡ Some f)
+unfolding tag_of object_of function_of
+function_row lib.Reduction = (refl, refl, refl)
+function_row lib.ReduceOverGroup = (refl, refl, refl)
+function_row lib.ExclusiveScanOverGroup = (refl, refl, refl)
+function_row lib.InclusiveScanOverGroup = (refl, refl, refl)
+function_row lib.GroupBroadcast = (refl, refl, refl)
+
+-- ---- what stands first
+
+pub mark_text_at : (text : List ℕ) {s : Spot} {from rest : List Token} → At (word row.Mark text) s from rest → mark_text from ≡ text
+unfolding mark_text
+mark_text_at text h = rw h.2 refl
+
+pub advance_at : {w : Word} {s : Spot} {from rest : List Token} → At w s from rest → advance from ≡ Some (s, rest)
+unfolding advance
+advance_at h = rw h.2 refl
+
+no_mark_text : (from : List Token) → sees_row row.Mark from ≡ false → mark_text from ≡ []
+unfolding mark_text sees_row
+no_mark_text [] e = refl
+no_mark_text (t ∷ ts) e = rw e refl
+
+other_row : (a b : Row) (from : List Token) → sees_row a from ≡ true → same_row a b ≡ false → sees_row b from ≡ false
+unfolding sees_row
+other_row a b [] h e = absurd cc
+other_row a b (t ∷ ts) h e = ap (λ z. same_row z b) (same_row_is t.word.row a h) ∙ e
+
+pub type_row : (from : List Token) → sees_type from ≡ true → sees_row row.Reserved from ≡ true
+unfolding sees_type
+type_row [] h = absurd cc
+type_row (t ∷ ts) h = (and_both (sees_row row.Reserved (t ∷ ts)) (is_some (one_word_of t.word.text)) h).0
+
+-- a word that such a tree doesn't begin with
+pub begins_no : (f : Word → Bool) (r : Row) (text : List ℕ) → f (word r text) ≡ false → (from : List Token) → first f from ≡ true → sees r text from ≡ false
+unfolding sees
+begins_no f r text e [] h = absurd cc
+begins_no f r text e (t ∷ ts) h = by (is_word r text t.word) refl
+  where
+    by : (b : Bool) → is_word r text t.word ≡ b → b ≡ false
+    by false is = refl
+    by true is = let clash : true ≡ false = sym h ∙ ap f (is_that r text t.word is) ∙ e in absurd cc
+
+-- what binds a mark
+pub binds_at : (text : List ℕ) {s : Spot} {from rest : List Token} → At (word row.Mark text) s from rest → r.binds from ≡ r.binds_by text
+unfolding r.binds
+binds_at text h = ap r.binds_by (mark_text_at text h)
+
+-- a mark that doesn't go on with an expression
+pub closes : (text : List ℕ) → r.binds_by text ≡ 0 → {s : Spot} {from rest : List Token} → At (word row.Mark text) s from rest → r.binds from < 1
+closes text e h = omega (arith, binds_at text h, e)
+
+pub comma_ends : (us ts : List Token) → Sees (mark ",") us ts → r.binds us < 1
+unfolding mark r.binds_by operator_of arithmetic_of comparison_of bitwise_of logical_of
+comma_ends us ts h = closes (codes ",") refl h.1
+
+operator_binds : (o : Operator) {s : Spot} {from rest : List Token} → At (mark (spelling o)) s from rest → r.binds from ≡ level o
+unfolding mark r.binds_by
+operator_binds o h = binds_at (codes (spelling o)) h ∙ ap (λ x. r.binds_as x (codes (spelling o))) (operator_row o)
+
+-- a mark that binds as a postfix doesn't follow where less binds
+binds_no : (text : List ℕ) → r.binds_by text ≡ 13 → (from : List Token) → r.binds from < 13 → sees row.Mark text from ≡ false
+binds_no text e from lt = by (sees row.Mark text from) refl
+  where
+    by : (b : Bool) → sees row.Mark text from ≡ b → b ≡ false
+    by false is = refl
+    by true is = let at = seen row.Mark text from is in absurd (omega (arith, lt, e, binds_at text at.1))
+
+-- ---- edges: what binds less than this goes on with no expression inside the tree
+
+abbrev pub edge : ExprLayer → ℕ
+edge (Expr-F.Prefix s o a) = 12
+edge (Expr-F.Unary s o a) = 12
+edge (Expr-F.Cast s t a) = 12
+edge (Expr-F.Binary a s o b) = level o + 1
+edge (Expr-F.Conditional a s b c) = 1
+edge _ = 13
+
+edge_most : (y : ExprLayer) → edge y ≤ 13
+edge_most (Expr-F.Prefix s o a) = omega arith
+edge_most (Expr-F.Unary s o a) = omega arith
+edge_most (Expr-F.Cast s t a) = omega arith
+edge_most (Expr-F.Binary a s o b) = omega (arith, level_bounds o)
+edge_most (Expr-F.Conditional a s b c) = omega arith
+edge_most _ = omega arith
+
+edge_above : (S : Rule Node) (b l : ℕ) (y : ExprLayer) (from rest : List Token) → ExprRule S l y from rest → l ≤ 13 → b < l → b < edge y
+edge_above S b l (Expr-F.Prefix s o a) from rest d top lt = omega (arith, d.0)
+edge_above S b l (Expr-F.Unary s o a) from rest d top lt = omega (arith, d.0)
+edge_above S b l (Expr-F.Cast s t a) from rest d top lt = omega (arith, d.0)
+edge_above S b l (Expr-F.Binary a s o c) from rest d top lt = omega (arith, d.0)
+edge_above S b l (Expr-F.Conditional a s c e) from rest d top lt = omega (arith, d.0)
+edge_above S b l _ from rest d top lt = omega arith
+
+edge_left : (S : Rule Node) (b l : ℕ) (y : ExprLayer) (from rest : List Token) → ExprRule S l y from rest → b ≤ l → 2 ≤ l → l ≤ 11 → b < edge y
+edge_left S b l (Expr-F.Prefix s o a) from rest d le low top = omega arith
+edge_left S b l (Expr-F.Unary s o a) from rest d le low top = omega arith
+edge_left S b l (Expr-F.Cast s t a) from rest d le low top = omega arith
+edge_left S b l (Expr-F.Binary a s o c) from rest d le low top = omega (arith, d.0)
+edge_left S b l (Expr-F.Conditional a s c e) from rest d le low top = absurd (omega (arith, d.0))
+edge_left S b l _ from rest d le low top = omega arith
+
+left_ends : (m l : ℕ) (a : Expr) (from rest : List Token) → Derives m (an_expr l a) from rest → r.binds rest ≤ l → 2 ≤ l → l ≤ 11 → r.binds rest < edge (out-Expr a)
+unfolding Derives
+left_ends zero l a from rest d b low top = absurd d
+left_ends (suc m) l a from rest d b low top = edge_left (Derives m) (r.binds rest) l (out-Expr a) from rest d b low top
+
+pub ends_there : (m l : ℕ) (x : Expr) (from rest : List Token) → l ≤ 13 → Derives m (an_expr l x) from rest → r.binds rest < l → r.binds rest < edge (out-Expr x)
+unfolding Derives
+ends_there zero l x from rest top d lt = absurd d
+ends_there (suc m) l x from rest top d lt = edge_above (Derives m) (r.binds rest) l (out-Expr x) from rest d top lt
+
+-- ---- where an expression begins with a type, a parenthesis follows the word
+
+-- a type begins, and no functional cast
+abbrev pub bare_type : List Token → Bool
+bare_type ts = sees_type ts && not (sees row.Mark (codes "(") (next ts))
+
+no_type_at : {w : Word} {s : Spot} {from rest : List Token} → At w s from rest → (same_row w.row row.Reserved && is_some (one_word_of w.text)) ≡ false → bare_type from ≡ false
+unfolding sees_type sees_row
+no_type_at h e = rw (h.2, e) refl
+
+opening_less : (b : Brackets) {s : Spot} {from rest : List Token} → At (mark (opening b)) s from rest → sees row.Mark (codes "<") from ≡ false
+unfolding mark
+opening_less brackets.Parentheses h = sees_other row.Mark (codes "<") h refl
+opening_less brackets.Braces h = sees_other row.Mark (codes "<") h refl
+
+-- an object's type begins with the namespace
+object_at : (t : ObjectType) (from rest : List Token) → Object t from rest → (s : Spot) × (m : List Token) × At (identifier "sycl") s from m
+object_at (object.Queue q) from rest h = (q.namespace, h.0, h.2)
+object_at (object.Device q) from rest h = (q.namespace, h.0, h.2)
+object_at (object.Context q) from rest h = (q.namespace, h.0, h.2)
+object_at (object.Event q) from rest h = (q.namespace, h.0, h.2)
+object_at (object.Accessor q) from rest h = (q.namespace, h.0, h.2)
+object_at (object.HostAccessor q) from rest h = (q.namespace, h.0, h.2)
+object_at (object.LocalAccessor q x) from rest h = (q.namespace, h.1.0, h.1.2)
+object_at (object.Buffer q x) from rest h = (q.namespace, h.1.0, h.1.2)
+object_at (object.Range q x) from rest h = (q.namespace, h.1.0, h.1.2)
+object_at (object.Id q x) from rest h = (q.namespace, h.1.0, h.1.2)
+object_at (object.NdRange q x) from rest h = (q.namespace, h.1.0, h.1.2)
+
+typed_layer : (S : Rule Node) → ((l : ℕ) (x : Expr) (from rest : List Token) → S (an_expr l x) from rest → bare_type from ≡ false) →
+    (l : ℕ) (y : ExprLayer) (from rest : List Token) → ExprRule S l y from rest → bare_type from ≡ false
+unfolding mark keyword identifier one_word_of keyword_of fixed_width_of
+typed_layer S f l (Expr-F.Integer x) from rest h = no_type_at h refl
+typed_layer S f l (Expr-F.Character x) from rest h = no_type_at h refl
+typed_layer S f l (Expr-F.Boolean s true) from rest h = no_type_at h refl
+typed_layer S f l (Expr-F.Boolean s false) from rest h = no_type_at h refl
+typed_layer S f l (Expr-F.Name x) from rest h = no_type_at h refl
+typed_layer S f l (Expr-F.Call g xs e) from rest h = no_type_at h.3 refl
+typed_layer S f l (Expr-F.Parenthesized s x e) from rest h = no_type_at h.2 refl
+typed_layer S f l (Expr-F.StaticCast s t x e) from rest h = no_type_at h.6 refl
+typed_layer S f l (Expr-F.FunctionalCast t x e) from rest h = rw (ap next h.3.1.1, sees_at row.Mark (codes "(") h.4.1) (and_no (sees_type from))
+typed_layer S f l (Expr-F.Construct t b s xs e) from rest h = no_type_at (object_at t from h.0 h.1).2 refl
+typed_layer S f l (Expr-F.GroupBarrier q x e) from rest h = no_type_at h.3.2 refl
+typed_layer S f l (Expr-F.AccessTag q t) from rest h = no_type_at h.2 refl
+typed_layer S f l (Expr-F.InOrder q b e) from rest h = no_type_at h.6.2 refl
+typed_layer S f l (Expr-F.ErrorCode q x) from rest h = no_type_at h.2.2 refl
+typed_layer S f l (Expr-F.InitializeToIdentity q b e) from rest h = no_type_at h.6.2 refl
+typed_layer S f l (Expr-F.FunctionObject q o t b e) from rest h = no_type_at h.5.2 refl
+typed_layer S f l (Expr-F.LibraryCall q g xs e) from rest h = no_type_at h.3.2 refl
+typed_layer S f l (Expr-F.Subscript a s x e) from rest h = f 13 a from h.0 h.3
+typed_layer S f l (Expr-F.MemberCall a x t xs e) from rest h = f 13 a from h.0 h.6
+typed_layer S f l (Expr-F.Postfix a s o) from rest h = f 13 a from h.0 h.1
+typed_layer S f l (Expr-F.Prefix s o a) from rest h = no_type_at h.1.1 refl
+typed_layer S f l (Expr-F.Unary s o a) from rest h = no_type_at h.1.1 refl
+typed_layer S f l (Expr-F.Cast s t a) from rest h = no_type_at h.1.3 refl
+typed_layer S f l (Expr-F.Binary a s o b) from rest h = f (level o) a from h.1.0 h.1.2
+typed_layer S f l (Expr-F.Conditional a s b c) from rest h = f 2 a from h.1.0 h.1.4
+
+pub typed_call : (n l : ℕ) (x : Expr) (from rest : List Token) → Derives n (an_expr l x) from rest → bare_type from ≡ false
+unfolding Derives
+typed_call zero l x from rest d = absurd d
+typed_call (suc n) l x from rest d = typed_layer (Derives n) (typed_call n) l (out-Expr x) from rest d
