@@ -1,5 +1,5 @@
 -- Expressions that stand there are read, where what stands below is.
-use Rattle.std.proofs.Common.{◌≡◌, ℕ, zero, suc, ◌+◌, ◌-◌, ◌≤◌, ◌<◌, max, nat_lt, not, Bool, true, false, cond, ◌&&◌, List, [], ◌∷◌, ◌++◌, length, ◌⊎◌, inl, inr, ⊎_elim, Option, Some, None, refl, sym, ap, ◌∙◌, subst, arith, append_assoc, lt-ltb, le-ltb, codes}
+use Rattle.std.proofs.Common.{◌≡◌, ℕ, zero, suc, ◌+◌, ◌-◌, ◌≤◌, ◌<◌, max, nat_lt, not, Bool, true, false, cond, ◌&&◌, List, [], ◌∷◌, ◌++◌, length, ◌⊎◌, inl, inr, ⊎_elim, Option, Some, None, refl, sym, ap, ◌∙◌, subst, arith, append_assoc, append-nil, length-drop, lt-ltb, le-ltb, codes}
 use Prim.Native.String.{String}
 use Rattle.std.proofs.lemmas.Bool.{ltb-true, ltb-false}
 use Rattle.std.proofs.lemmas.Slice.Eq.{bytes_eq-Decides}
@@ -62,7 +62,7 @@ use Rattle.sy_reading.specs.Parts.{sees_type, is_some, one_capture, maybe_parame
 use Rattle.sy_reading.specs.Tables.{one_word_of, keyword_of, fixed_width_of}
 use Rattle.sy_reading.proofs.Steps.{word, is_that, seen, and_both, same_row_is}
 use Rattle.sy_reading.proofs.ReadSteps.{sees_at, next_at, expect_at, sees_other, row_at, no_row, lexed_at, grows, at_length, passed, ReadsAs, list_short, all_listed_read, maybe_listed_read}
-use Rattle.sy_reading.proofs.PartsRead.{and_no, opened_read, closed_read, empty_brackets_read, integral_read, integral_type, one_word_read, not_type, sycl_read, OfNames, object_named, captures_read, maybe_parameters_read, maybe_template_argument_read, namespace_at}
+use Rattle.sy_reading.proofs.PartsRead.{integral_next, and_no, opened_read, closed_read, empty_brackets_read, integral_read, integral_type, one_word_read, not_type, sycl_read, OfNames, object_named, captures_read, maybe_parameters_read, maybe_template_argument_read, namespace_at}
 
 -- ---- trees from their layers
 
@@ -302,6 +302,56 @@ pub comma_ends : (us ts : List Token) → Sees (mark ",") us ts → r.binds us <
 unfolding mark r.binds_by operator_of arithmetic_of comparison_of bitwise_of logical_of
 comma_ends us ts h = closes (codes ",") refl h.1
 
+-- the marks that close, and those that go on with a primary expression
+
+pub parenthesis_ends : {s : Spot} {us ts : List Token} → At (mark ")") s us ts → r.binds us < 1
+unfolding mark r.binds_by operator_of arithmetic_of comparison_of bitwise_of logical_of
+parenthesis_ends h = closes (codes ")") refl h
+
+pub bracket_ends : {s : Spot} {us ts : List Token} → At (mark "]") s us ts → r.binds us < 1
+unfolding mark r.binds_by operator_of arithmetic_of comparison_of bitwise_of logical_of
+bracket_ends h = closes (codes "]") refl h
+
+pub brace_ends : {s : Spot} {us ts : List Token} → At (mark "}") s us ts → r.binds us < 1
+unfolding mark r.binds_by operator_of arithmetic_of comparison_of bitwise_of logical_of
+brace_ends h = closes (codes "}") refl h
+
+pub colon_ends : {s : Spot} {us ts : List Token} → At (mark ":") s us ts → r.binds us < 1
+unfolding mark r.binds_by operator_of arithmetic_of comparison_of bitwise_of logical_of
+colon_ends h = closes (codes ":") refl h
+
+pub semicolon_ends : {s : Spot} {us ts : List Token} → At (mark ";") s us ts → r.binds us < 1
+unfolding mark r.binds_by operator_of arithmetic_of comparison_of bitwise_of logical_of
+semicolon_ends h = closes (codes ";") refl h
+
+opening_binds : r.binds_by (codes "(") ≡ 13
+unfolding mark r.binds_by operator_of arithmetic_of comparison_of bitwise_of logical_of
+opening_binds = refl
+
+subscript_binds : r.binds_by (codes "[") ≡ 13
+unfolding mark r.binds_by operator_of arithmetic_of comparison_of bitwise_of logical_of
+subscript_binds = refl
+
+dot_binds : r.binds_by (codes ".") ≡ 13
+unfolding mark r.binds_by operator_of arithmetic_of comparison_of bitwise_of logical_of
+dot_binds = refl
+
+colons_binds : r.binds_by (codes "::") ≡ 13
+unfolding mark r.binds_by operator_of arithmetic_of comparison_of bitwise_of logical_of
+colons_binds = refl
+
+increment_binds : r.binds_by (codes "++") ≡ 13
+unfolding mark r.binds_by operator_of arithmetic_of comparison_of bitwise_of logical_of
+increment_binds = refl
+
+decrement_binds : r.binds_by (codes "--") ≡ 13
+unfolding mark r.binds_by operator_of arithmetic_of comparison_of bitwise_of logical_of
+decrement_binds = refl
+
+question_binds : r.binds_by (codes "?") ≡ 1
+unfolding mark r.binds_by operator_of arithmetic_of comparison_of bitwise_of logical_of
+question_binds = refl
+
 operator_binds : (o : Operator) {s : Spot} {from rest : List Token} → At (mark (spelling o)) s from rest → r.binds from ≡ level o
 unfolding mark r.binds_by
 operator_binds o h = binds_at (codes (spelling o)) h ∙ ap (λ x. r.binds_as x (codes (spelling o))) (operator_row o)
@@ -374,18 +424,18 @@ opening_less brackets.Parentheses h = sees_other row.Mark (codes "<") h refl
 opening_less brackets.Braces h = sees_other row.Mark (codes "<") h refl
 
 -- an object's type begins with the namespace
-object_at : (t : ObjectType) (from rest : List Token) → Object t from rest → (s : Spot) × (m : List Token) × At (identifier "sycl") s from m
-object_at (object.Queue q) from rest h = (q.namespace, h.0, h.2)
-object_at (object.Device q) from rest h = (q.namespace, h.0, h.2)
-object_at (object.Context q) from rest h = (q.namespace, h.0, h.2)
-object_at (object.Event q) from rest h = (q.namespace, h.0, h.2)
-object_at (object.Accessor q) from rest h = (q.namespace, h.0, h.2)
-object_at (object.HostAccessor q) from rest h = (q.namespace, h.0, h.2)
-object_at (object.LocalAccessor q x) from rest h = (q.namespace, h.1.0, h.1.2)
-object_at (object.Buffer q x) from rest h = (q.namespace, h.1.0, h.1.2)
-object_at (object.Range q x) from rest h = (q.namespace, h.1.0, h.1.2)
-object_at (object.Id q x) from rest h = (q.namespace, h.1.0, h.1.2)
-object_at (object.NdRange q x) from rest h = (q.namespace, h.1.0, h.1.2)
+pub object_at : (t : ObjectType) (from rest : List Token) → Object t from rest → (s : Spot) × (m k : List Token) × At (identifier "sycl") s from m × Sees (mark "::") m k
+object_at (object.Queue q) from rest h = (q.namespace, h.0, h.1, h.2, h.3)
+object_at (object.Device q) from rest h = (q.namespace, h.0, h.1, h.2, h.3)
+object_at (object.Context q) from rest h = (q.namespace, h.0, h.1, h.2, h.3)
+object_at (object.Event q) from rest h = (q.namespace, h.0, h.1, h.2, h.3)
+object_at (object.Accessor q) from rest h = (q.namespace, h.0, h.1, h.2, h.3)
+object_at (object.HostAccessor q) from rest h = (q.namespace, h.0, h.1, h.2, h.3)
+object_at (object.LocalAccessor q x) from rest h = (q.namespace, h.1.0, h.1.1, h.1.2, h.1.3)
+object_at (object.Buffer q x) from rest h = (q.namespace, h.1.0, h.1.1, h.1.2, h.1.3)
+object_at (object.Range q x) from rest h = (q.namespace, h.1.0, h.1.1, h.1.2, h.1.3)
+object_at (object.Id q x) from rest h = (q.namespace, h.1.0, h.1.1, h.1.2, h.1.3)
+object_at (object.NdRange q x) from rest h = (q.namespace, h.1.0, h.1.1, h.1.2, h.1.3)
 
 typed_layer : (S : Rule Node) → ((l : ℕ) (x : Expr) (from rest : List Token) → S (an_expr l x) from rest → bare_type from ≡ false) →
     (l : ℕ) (y : ExprLayer) (from rest : List Token) → ExprRule S l y from rest → bare_type from ≡ false
@@ -399,7 +449,7 @@ typed_layer S f l (Expr-F.Call g xs e) from rest h = no_type_at h.3 refl
 typed_layer S f l (Expr-F.Parenthesized s x e) from rest h = no_type_at h.2 refl
 typed_layer S f l (Expr-F.StaticCast s t x e) from rest h = no_type_at h.6 refl
 typed_layer S f l (Expr-F.FunctionalCast t x e) from rest h = rw (ap next h.3.1.1, sees_at row.Mark (codes "(") h.4.1) (and_no (sees_type from))
-typed_layer S f l (Expr-F.Construct t b s xs e) from rest h = no_type_at (object_at t from h.0 h.1).2 refl
+typed_layer S f l (Expr-F.Construct t b s xs e) from rest h = no_type_at (object_at t from h.0 h.1).3 refl
 typed_layer S f l (Expr-F.GroupBarrier q x e) from rest h = no_type_at h.3.2 refl
 typed_layer S f l (Expr-F.AccessTag q t) from rest h = no_type_at h.2 refl
 typed_layer S f l (Expr-F.InOrder q b e) from rest h = no_type_at h.6.2 refl
@@ -420,3 +470,46 @@ pub typed_call : (n l : ℕ) (x : Expr) (from rest : List Token) → Derives n (
 unfolding Derives
 typed_call zero l x from rest d = absurd d
 typed_call (suc n) l x from rest d = typed_layer (Derives n) (typed_call n) l (out-Expr x) from rest d
+
+-- ---- blocks and lambdas, where a statement of a height of at most n is read
+
+module _ (sub : ℕ → Reader (Tall Expr)) (stmt : Reader (Tall Stmt)) (n : ℕ) (small : n < 64)
+    (whole_stmt : (m : ℕ) (x : Stmt) (from rest : List Token) → m ≤ n → Derives m (a_stmt x) from rest → ReadsAs (stmt from) m x rest) where
+  -- after the statements xs of a height of at most h
+  statements_read : (m : ℕ) → m ≤ n → (t h : ℕ) (xs ys : List Stmt) (e : Spot) (from mid rest : List Token) → h ≤ m → length from ≤ t →
+      Each (Substatement (Derives m)) ys from mid → At (mark "}") e mid rest → ReadsAs (r.statements sub stmt t xs h from) m (xs ++ ys) mid
+  unfolding r.statements mark
+  statements_read m le zero h xs [] e from mid rest lh lt d c = absurd (omega (arith, lt, ap length d, at_length c))
+  statements_read m le zero h xs (x ∷ more) e from mid rest lh lt d c =
+      let p = Derives-takes m (a_stmt x) from d.0 d.1 in absurd (omega (arith, lt, p.enough, p.within))
+  statements_read m le (suc t) h xs [] e from mid rest lh lt d c = (h, lh, rw (d, sees_at row.Mark (codes "}") c, append-nil xs) refl)
+  statements_read m le (suc t) h xs (x ∷ more) e from mid rest lh lt d c =
+      let p = Derives-takes m (a_stmt x) from d.0 d.1 in
+      let no = begins_no (opens (a_stmt x)) row.Mark (codes "}") refl from (Derives-begins m (a_stmt x) from d.0 d.1) in
+      let first = whole_stmt m x from d.0 le d.1 in
+      let shorter : length d.0 ≤ t = omega (arith, lt, ap length p.is, length-drop p.taken from, p.enough, p.within) in
+      let others = statements_read m le t (max h first.0) (xs ++ x ∷ []) more e d.0 mid rest (omega (arith, lh, first.1)) shorter d.2 c in
+      (others.0, others.1, rw (no, first.2, others.2, append_assoc xs (x ∷ []) more) refl)
+
+  pub block_read : (m : ℕ) → m ≤ suc n → (b : Block) (from rest : List Token) → Derives m (a_block b) from rest → ReadsAs (r.one_block sub stmt from) m b rest
+  unfolding r.one_block Derives mark
+  block_read zero le b from rest d = absurd d
+  block_read (suc m) le b from rest d =
+      let low : m ≤ n = omega arith in
+      let all = statements_read m low (length d.0) 0 [] (out-Block b).statements (out-Block b).close d.0 d.1 rest (omega arith) (omega arith) d.3 d.4 in
+      let lt : all.0 < 64 = omega (arith, all.1, small, low) in
+      subst (λ z. ReadsAs (r.one_block sub stmt from) (suc m) z rest) (roll-out-Block b)
+      (all.0 + 1, omega (arith, all.1), rw (expect_at row.Mark (codes "{") d.2, all.2, expect_at row.Mark (codes "}") d.4, grows {A = Block} _ _ _ lt) refl)
+
+  pub lambda_read : (m : ℕ) → m ≤ suc n → (l : Lambda) (from rest : List Token) → Derives m (a_lambda l) from rest → ReadsAs (r.one_lambda sub stmt from) m l rest
+  unfolding r.one_lambda Derives mark
+  lambda_read zero le l from rest d = absurd d
+  lambda_read (suc m) le l from rest d =
+      let low : m ≤ n = omega arith in
+      let cs = captures_read (out-Lambda l).captures d.0 d.1 d.2 d.5 d.6 in
+      let no = begins_no (opens (a_block (out-Lambda l).body)) row.Mark (codes "(") refl d.3 (Derives-begins m (a_block (out-Lambda l).body) d.3 rest d.8) in
+      let b = block_read m (omega arith) (out-Lambda l).body d.3 rest d.8 in
+      let lt : b.0 < 64 = omega (arith, b.1, small, low) in
+      subst (λ z. ReadsAs (r.one_lambda sub stmt from) (suc m) z rest) (roll-out-Lambda l)
+      (b.0 + 1, omega (arith, b.1), rw (expect_at row.Mark (codes "[") d.4, cs.2, expect_at row.Mark (codes "]") d.6.1,
+      maybe_parameters_read (out-Lambda l).parameters d.2 d.3 no d.7, b.2, grows {A = Lambda} _ _ _ lt) refl)
