@@ -1,6 +1,5 @@
 -- Expressions that stand there are read, where what stands below is.
 use Rattle.std.proofs.Common.{◌≡◌, ℕ, zero, suc, ◌+◌, ◌-◌, ◌≤◌, ◌<◌, max, nat_lt, not, Bool, true, false, cond, ◌&&◌, List, [], ◌∷◌, ◌++◌, length, ◌⊎◌, inl, inr, ⊎_elim, Option, Some, None, refl, sym, ap, ◌∙◌, subst, arith, append_assoc, append-nil, length-drop, lt-ltb, le-ltb, codes}
-use Prim.Native.String.{String}
 use Rattle.std.proofs.lemmas.Bool.{ltb-true, ltb-false}
 use Rattle.std.proofs.lemmas.Slice.Eq.{bytes_eq-Decides}
 use Rattle.std.specs.Str.{bytes_eq}
@@ -30,7 +29,7 @@ use Rattle.sy_tree.specs.Expressions.{Node, an_expr, a_lambda, a_stmt, AnyExpr, 
 use Rattle.sy_tree.specs.Grammar.{NodeRule, Derives}
 use Rattle.sy_tree.specs.Layers.{ArgumentLayer, ExprLayer}
 use Rattle.sy_tree.specs.Lists.{Optional, Listed, MaybeListed}
-use Rattle.sy_tree.specs.Words.{At, Sees, Sycl, mark, keyword, identifier, level, spelling, step_spelling, unary_spelling, tag_spelling, object_spelling, function_spelling}
+use Rattle.sy_tree.specs.Words.{At, Sees, Lexed, Sycl, mark, keyword, identifier, level, spelling, step_spelling, unary_spelling, tag_spelling, object_spelling, function_spelling}
 use Rattle.sy_tree.proofs.Theorems.{Derives-taller, Derives-looser}
 use Rattle.sy_reading.specs.Exprs as r
 use Rattle.sy_reading.specs.Input.{Reader, Tall, grown, expect, lexed, sees, sees_row, sees_namespace, mark_text, advance, named, qualified, all_listed, maybe_listed}
@@ -44,6 +43,8 @@ use Rattle.sy_tree.specs.declared.parts.Step.TheVariants as step
 use Rattle.sy_tree.specs.Types.{Integral}
 use Rattle.sy_lex.specs.declared.Row.{Row}
 use Rattle.sy_lex.specs.declared.Word.{Word}
+use Rattle.sy_tree.specs.declared.parts.Lexeme.{Lexeme}
+use Prim.Native.String.{String}
 use Rattle.sy_tree.specs.declared.tree.Block.{Block, out-Block, roll-Block, roll-out-Block}
 use Rattle.sy_tree.specs.declared.tree.Lambda.{out-Lambda, roll-Lambda, roll-out-Lambda}
 use Rattle.sy_tree.specs.declared.parts.Brackets.{Brackets}
@@ -513,3 +514,166 @@ module _ (sub : ℕ → Reader (Tall Expr)) (stmt : Reader (Tall Stmt)) (n : ℕ
       subst (λ z. ReadsAs (r.one_lambda sub stmt from) (suc m) z rest) (roll-out-Lambda l)
       (b.0 + 1, omega (arith, b.1), rw (expect_at row.Mark (codes "[") d.4, cs.2, expect_at row.Mark (codes "]") d.6.1,
       maybe_parameters_read (out-Lambda l).parameters d.2 d.3 no d.7, b.2, grows {A = Lambda} _ _ _ lt) refl)
+
+-- ---- arguments and primary expressions, where all of a height of at most n is read
+
+ways_construct : (sub : ℕ → Reader (Tall Expr)) (stmt : Reader (Tall Stmt)) → OfNames (λ text. (q : Qualified) (m : List Token) → r.library_by sub stmt q text m ≡ r.construct sub stmt q text m)
+unfolding r.library_by r.other_name tag_of object_of function_of
+ways_construct sub stmt = (λ q m. refl, λ q m. refl, λ q m. refl, λ q m. refl, λ q m. refl, λ q m. refl, λ q m. refl, λ q m. refl, λ q m. refl, λ q m. refl, λ q m. refl)
+
+lambda_at : (m : ℕ) (l : Lambda) (from rest : List Token) → Derives m (a_lambda l) from rest → (s : Spot) × (k : List Token) × At (mark "[") s from k
+unfolding Derives
+lambda_at zero l from rest d = absurd d
+lambda_at (suc m) l from rest d = ((out-Lambda l).spot, d.0, d.4)
+
+module _ (sub : ℕ → Reader (Tall Expr)) (stmt : Reader (Tall Stmt)) (n : ℕ) (small : n < 64)
+    (whole_stmt : (m : ℕ) (x : Stmt) (from rest : List Token) → m ≤ n → Derives m (a_stmt x) from rest → ReadsAs (stmt from) m x rest)
+    (whole : (m l : ℕ) (x : Expr) (from rest : List Token) → m ≤ n → l ≤ 13 → Derives m (an_expr l x) from rest → r.binds rest < l → ReadsAs (sub l from) m x rest) where
+  -- what doesn't go on with an expression
+  abbrev pub Ended : List Token → Type 0
+  Ended ts = r.binds ts < 1
+
+  expr_short : (m : ℕ) (x : Expr) (from rest : List Token) → AnyExpr (Derives m) x from rest → length rest ≤ length from
+  expr_short m x from rest d = passed (Derives-takes m (an_expr 1 x) from rest d)
+
+  pub any_read : (m : ℕ) → m ≤ n → (x : Expr) (from rest : List Token) → AnyExpr (Derives m) x from rest → Ended rest → ReadsAs (sub 1 from) m x rest
+  any_read m le x from rest d e = whole m 1 x from rest le (omega arith) d e
+
+  exprs_read : (m : ℕ) → m ≤ n → (xs : List Expr) (e : Spot) (from mid rest : List Token) → MaybeListed (AnyExpr (Derives m)) xs from mid → At (mark ")") e mid rest →
+      ReadsAs (maybe_listed (sub 1) (codes ")") from) m xs mid
+  unfolding mark
+  exprs_read m le xs e from mid rest d c =
+      maybe_listed_read (sub 1) (AnyExpr (Derives m)) m Ended (expr_short m) (any_read m le) comma_ends (codes ")") xs from mid
+      (λ x us ts h. begins_no opens_expr row.Mark (codes ")") refl us (Derives-begins m (an_expr 1 x) us ts h))
+      (omega (arith, at_length c)) d (parenthesis_ends c) (sees_other row.Mark (codes ",") c refl) (sees_at row.Mark (codes ")") c)
+
+  -- ---- arguments
+
+  argument_short : (m : ℕ) (a : Argument) (from rest : List Token) → OneArgument (Derives m) a from rest → length rest ≤ length from
+  argument_short m a from rest d = by (out-Argument a) d
+    where
+      by : (y : ArgumentLayer) → ArgumentRule (Derives m) y from rest → length rest ≤ length from
+      by (Argument-F.Value x) d = expr_short m x from rest d
+      by (Argument-F.Braced s xs e) d = omega (arith, at_length d.2, list_short (AnyExpr (Derives m)) (expr_short m) xs d.0 d.1 d.3, at_length d.4)
+      by (Argument-F.Lambda l) d = passed (Derives-takes m (a_lambda l) from rest d)
+
+  argument_layer : (m : ℕ) → m ≤ n → (y : ArgumentLayer) (from rest : List Token) → ArgumentRule (Derives m) y from rest → Ended rest → ReadsAs (r.one_argument sub stmt from) m (argued y) rest
+  unfolding r.one_argument r.braced mark
+  argument_layer m le (Argument-F.Value x) from rest d e =
+      let begins = Derives-begins m (an_expr 1 x) from rest d in
+      let v = any_read m le x from rest d e in
+      (v.0, v.1, rw (begins_no opens_expr row.Mark (codes "{") refl from begins, begins_no opens_expr row.Mark (codes "[") refl from begins, v.2) refl)
+  argument_layer m le (Argument-F.Braced s xs e) from rest d ends =
+      let all = all_listed_read (sub 1) (AnyExpr (Derives m)) m Ended (expr_short m) (any_read m le) comma_ends xs d.0 d.1
+      (omega (arith, at_length d.4)) d.3 (brace_ends d.4) (sees_other row.Mark (codes ",") d.4 refl) in
+      (all.0, all.1, rw (sees_at row.Mark (codes "{") d.2, expect_at row.Mark (codes "{") d.2, all.2, expect_at row.Mark (codes "}") d.4) refl)
+  argument_layer m le (Argument-F.Lambda l) from rest d ends =
+      let at = lambda_at m l from rest d in
+      let v = lambda_read sub stmt n small whole_stmt m (omega arith) l from rest d in
+      (v.0, v.1, rw (sees_other row.Mark (codes "{") at.2 refl, sees_at row.Mark (codes "[") at.2, v.2) refl)
+
+  argument_read : (m : ℕ) → m ≤ n → (a : Argument) (from rest : List Token) → OneArgument (Derives m) a from rest → Ended rest → ReadsAs (r.one_argument sub stmt from) m a rest
+  argument_read m le a from rest d e = subst (λ z. ReadsAs (r.one_argument sub stmt from) m z rest) (argued_out a) (argument_layer m le (out-Argument a) from rest d e)
+
+  -- a mark that no argument begins with
+  argument_begins : (m : ℕ) (close : List ℕ) → opens_expr (word row.Mark close) ≡ false → is_word row.Mark close (word row.Mark (codes "{")) ≡ false →
+      is_word row.Mark close (word row.Mark (codes "[")) ≡ false → (a : Argument) (from rest : List Token) → OneArgument (Derives m) a from rest → sees row.Mark close from ≡ false
+  unfolding mark
+  argument_begins m close p q v a from rest d = by (out-Argument a) d
+    where
+      by : (y : ArgumentLayer) → ArgumentRule (Derives m) y from rest → sees row.Mark close from ≡ false
+      by (Argument-F.Value x) d = begins_no opens_expr row.Mark close p from (Derives-begins m (an_expr 1 x) from rest d)
+      by (Argument-F.Braced s xs e) d = sees_other row.Mark close d.2 q
+      by (Argument-F.Lambda l) d = sees_other row.Mark close (lambda_at m l from rest d).2 v
+
+  -- list(arg)?, up to a bracket that closes
+  pub arguments_read : (m : ℕ) → m ≤ n → (b : Brackets) (xs : List Argument) (e : Spot) (from mid rest : List Token) → MaybeListed (OneArgument (Derives m)) xs from mid → At (mark (closing b)) e mid rest →
+      ReadsAs (r.arguments sub stmt (closing_text b) from) m xs mid
+  unfolding r.arguments mark
+  arguments_read m le brackets.Parentheses xs e from mid rest d c =
+      maybe_listed_read (r.one_argument sub stmt) (OneArgument (Derives m)) m Ended (argument_short m) (argument_read m le) comma_ends (codes ")") xs from mid
+      (argument_begins m (codes ")") refl refl refl) (omega (arith, at_length c)) d (parenthesis_ends c) (sees_other row.Mark (codes ",") c refl) (sees_at row.Mark (codes ")") c)
+  arguments_read m le brackets.Braces xs e from mid rest d c =
+      maybe_listed_read (r.one_argument sub stmt) (OneArgument (Derives m)) m Ended (argument_short m) (argument_read m le) comma_ends (codes "}") xs from mid
+      (argument_begins m (codes "}") refl refl refl) (omega (arith, at_length c)) d (brace_ends c) (sees_other row.Mark (codes ",") c refl) (sees_at row.Mark (codes "}") c)
+
+  -- list(arg), up to `)`
+  pub argument_list_read : (m : ℕ) → m ≤ n → (xs : List Argument) (e : Spot) (from mid rest : List Token) → Listed (OneArgument (Derives m)) xs from mid → At (mark ")") e mid rest →
+      ReadsAs (all_listed (r.one_argument sub stmt) from) m xs mid
+  unfolding mark
+  argument_list_read m le xs e from mid rest d c =
+      all_listed_read (r.one_argument sub stmt) (OneArgument (Derives m)) m Ended (argument_short m) (argument_read m le) comma_ends xs from mid
+      (omega (arith, at_length c)) d (parenthesis_ends c) (sees_other row.Mark (codes ",") c refl)
+
+  parenthesis_read : (m : ℕ) → m ≤ n → (x : Expr) (e : Spot) (from i k rest : List Token) → Sees (mark "(") from i → AnyExpr (Derives m) x i k → At (mark ")") e k rest →
+      (h : ℕ) × (h ≤ m) × (r.parenthesis sub stmt from ≡ Some (((x, h), e), rest))
+  unfolding r.parenthesis mark
+  parenthesis_read m le x e from i k rest a d c =
+      let v = any_read m le x i k d (parenthesis_ends c) in
+      (v.0, v.1, rw (expect_at row.Mark (codes "(") a.1, v.2, expect_at row.Mark (codes ")") c) refl)
+
+  -- ---- which reader of a primary expression it is
+
+  abbrev Begun : List Token → Type 0
+  Begun from = r.prefix sub stmt from ≡ r.whole_postfix sub stmt from
+
+  plain : (from : List Token) → sees_row row.Mark from ≡ false → Begun from
+  unfolding r.prefix r.cast_or_postfix r.sees_cast step_of unary_of
+  plain from e = rw (no_mark_text from e, no_row row.Mark (codes "(") from e) refl
+
+  in_parentheses : {s : Spot} {from m : List Token} → At (mark "(") s from m → bare_type m ≡ false → Begun from
+  unfolding r.prefix r.cast_or_postfix r.sees_cast step_of unary_of mark
+  in_parentheses h e = rw (mark_text_at (codes "(") h, sees_at row.Mark (codes "(") h, next_at h, e) refl
+
+  name_first : (x : Lexeme) (from m : List Token) → Lexed row.Ident x from m → sees row.Mark (codes "::") m ≡ false → r.primary sub stmt from ≡ r.named_primary sub stmt from
+  unfolding r.primary sees_namespace
+  name_first x from m h e =
+      rw (row_at row.Int false h refl, row_at row.Char false h refl, row_at row.Reserved false h refl, sees_other row.Mark (codes "(") h refl, next_at h, e, and_no (sees row.Ident (codes "sycl") from)) refl
+
+  reserved_first : (from : List Token) → sees_row row.Reserved from ≡ true → r.primary sub stmt from ≡ r.reserved_primary sub stmt from
+  unfolding r.primary
+  reserved_first from h = rw (other_row row.Reserved row.Int from h refl, other_row row.Reserved row.Char from h refl, h) refl
+
+  library_first : {s : Spot} {from m k : List Token} → At (identifier "sycl") s from m → Sees (mark "::") m k → r.primary sub stmt from ≡ r.library sub stmt from
+  unfolding r.primary identifier mark
+  library_first h c =
+      rw (row_at row.Int false h refl, row_at row.Char false h refl, row_at row.Reserved false h refl, sees_other row.Mark (codes "(") h refl, namespace_at (codes "sycl") h c.1) refl
+
+  library_at : (w : String) (q : Qualified) (from m : List Token) → Sycl w q from m → r.primary sub stmt from ≡ r.library_by sub stmt q (codes w) m
+  unfolding r.library
+  library_at w q from m h = library_first h.2 h.3 ∙ rw (sycl_read w q from m h) refl
+
+  library_plain : {s : Spot} {from m : List Token} → At (identifier "sycl") s from m → Begun from
+  unfolding identifier
+  library_plain {from = from} h = plain from (row_at row.Mark false h refl)
+
+  maybe_integral_read : (t : Option IntegerType) (from m rest : List Token) → Optional Integral t from m → Sees (mark ">") m rest → r.maybe_integral sub stmt from ≡ Some (t, m)
+  unfolding r.maybe_integral mark
+  maybe_integral_read None from m rest h c = rw (h, sees_at row.Mark (codes ">") c.1) refl
+  maybe_integral_read (Some t) from m rest h c =
+      rw (no_row row.Mark (codes ">") from (other_row row.Reserved row.Mark from (type_row from (integral_type t from m h)) refl), integral_read t from m (row_at row.Reserved false c.1 refl) h) refl
+
+  -- ---- what is read up to the end of a postfix expression, with the turns that are left
+
+  abbrev PostfixTo : ℕ → Expr → List Token → List Token → Type 0
+  PostfixTo m x from rest = (h k : ℕ) × (h ≤ m) × (65 ≤ k + h) × (r.prefix sub stmt from ≡ r.postfixes sub stmt k (x, h) rest)
+
+  based : (m h : ℕ) (x : Expr) (from rest : List Token) → h ≤ m → Begun from → r.primary sub stmt from ≡ Some ((x, h), rest) → PostfixTo m x from rest
+  unfolding r.whole_postfix
+  based m h x from rest le b e = (h, 65, le, omega arith, b ∙ rw e refl)
+
+  one_postfix : (k : ℕ) (a b : Tall Expr) (us ts : List Token) → r.binds us ≡ 13 → r.postfix sub stmt a us ≡ Some (b, ts) → r.postfixes sub stmt (suc k) a us ≡ r.postfixes sub stmt k b ts
+  unfolding r.postfixes
+  one_postfix k a b us ts t e = rw (t, e) refl
+
+  -- one more, behind what stands on the left
+  stepped : (m g : ℕ) (a z : Expr) (from us ts : List Token) (left : PostfixTo m a from us) → m ≤ n → max left.0 g ≤ m → r.binds us ≡ 13 →
+      r.postfix sub stmt (a, left.0) us ≡ Some ((z, max left.0 g + 1), ts) → PostfixTo (suc m) z from ts
+  stepped m g a z from us ts left le high t e =
+      let turn : left.1 ≡ suc (left.1 - 1) = omega (arith, left.2, left.3, le, small) in (
+        max left.0 g + 1,
+        left.1 - 1,
+        omega (arith, high),
+        omega (arith, left.2, left.3, le, small),
+        left.4 ∙ ap (λ k. r.postfixes sub stmt k (a, left.0) us) turn ∙ one_postfix (left.1 - 1) (a, left.0) (z, max left.0 g + 1) us ts t e,
+      )
