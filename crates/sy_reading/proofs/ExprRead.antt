@@ -677,3 +677,170 @@ module _ (sub : ℕ → Reader (Tall Expr)) (stmt : Reader (Tall Stmt)) (n : ℕ
         omega (arith, left.2, left.3, le, small),
         left.4 ∙ ap (λ k. r.postfixes sub stmt k (a, left.0) us) turn ∙ one_postfix (left.1 - 1) (a, left.0) (z, max left.0 g + 1) us ts t e,
       )
+
+  -- neither a call nor a namespace goes on here
+  abbrev NoCall : List Token → Type 0
+  NoCall rest = (sees row.Mark (codes "(") rest ≡ false) × (sees row.Mark (codes "::") rest ≡ false)
+
+  -- another mark
+  other_mark : (text : List ℕ) → is_word row.Mark (codes "(") (word row.Mark text) ≡ false → is_word row.Mark (codes "::") (word row.Mark text) ≡ false →
+      {s : Spot} {from rest : List Token} → At (word row.Mark text) s from rest → NoCall from
+  other_mark text p q h = (sees_other row.Mark (codes "(") h p, sees_other row.Mark (codes "::") h q)
+
+  step_goes_on : (o : Step) {s : Spot} {from rest : List Token} → At (mark (step_spelling o)) s from rest →
+      NoCall from × (r.binds from ≡ 13) × (sees row.Mark (codes "[") from ≡ false) × (sees row.Mark (codes ".") from ≡ false)
+  unfolding mark
+  step_goes_on step.Increment h = (other_mark (codes "++") refl refl h, binds_at (codes "++") h ∙ increment_binds, sees_other row.Mark (codes "[") h refl, sees_other row.Mark (codes ".") h refl)
+  step_goes_on step.Decrement h = (other_mark (codes "--") refl refl h, binds_at (codes "--") h ∙ decrement_binds, sees_other row.Mark (codes "[") h refl, sees_other row.Mark (codes ".") h refl)
+
+  -- of a library's call, after its name
+  call_read : (f : LibraryFunction) (q : Qualified) (m : List Token) → r.library_by sub stmt q (codes (function_spelling f)) m ≡ r.library_call sub stmt q f m
+  unfolding r.library_by
+  call_read f q m = let k = function_row f in rw (k.0, k.1, k.2) refl
+
+  function_object_read : (f : FunctionObject) (q : Qualified) (m : List Token) → r.library_by sub stmt q (codes (object_spelling f)) m ≡ r.function_object sub stmt q f m
+  unfolding r.library_by
+  function_object_read f q m = let k = object_row f in rw (k.0, k.1) refl
+
+  access_read : (t : AccessTag) (q : Qualified) (m : List Token) → r.library_by sub stmt q (codes (tag_spelling t)) m ≡ Some ((tree.AccessTag q t, 1), m)
+  unfolding r.library_by
+  access_read t q m = rw (tag_row t) refl
+
+  barrier_read : (q : Qualified) (m : List Token) → r.library_by sub stmt q (codes "group_barrier") m ≡ r.group_barrier sub stmt q m
+  unfolding r.library_by r.other_name tag_of object_of function_of
+  barrier_read q m = refl
+
+  property_read : (q : Qualified) (m : List Token) → r.library_by sub stmt q (codes "property") m ≡ r.property sub stmt q m
+  unfolding r.library_by r.other_name tag_of object_of function_of
+  property_read q m = refl
+
+  error_read : (q : Qualified) (m : List Token) → r.library_by sub stmt q (codes "errc") m ≡ r.error_code sub stmt q m
+  unfolding r.library_by r.other_name tag_of object_of function_of
+  error_read q m = refl
+
+  -- an object's construction, after the type
+  construct_read : (m : ℕ) → m ≤ n → (t : ObjectType) (b : Brackets) (s : Spot) (xs : List Argument) (e : Spot) (from i rest : List Token) → Object t from i →
+      BracketedArguments (Derives m) b s xs e i rest → (h : ℕ) × (h ≤ suc m) × (r.primary sub stmt from ≡ Some ((tree.Construct t b s xs e, h), rest))
+  unfolding r.library r.construct
+  construct_read m le t b s xs e from i rest o d =
+      let P : List ℕ → Type 0 = λ text. (q : Qualified) (m : List Token) → r.library_by sub stmt q text m ≡ r.construct sub stmt q text m in
+      let found = object_named P (ways_construct sub stmt) t from i (opening_less b d.2) o in
+      let at = object_at t from i o in
+      let all = arguments_read m le b xs e d.0 d.1 rest d.3 d.4 in
+      let lt : all.0 < 64 = omega (arith, all.1, le, small) in
+      (all.0 + 1, omega (arith, all.1), library_first at.3 at.4 ∙ rw (found.4, found.3 found.1 found.2, found.5, opened_read b s i d.0 d.2, all.2, closed_read b e d.1 rest d.4, grows {A = Expr} _ _ _ lt) refl)
+
+  integer_read : (x : Lexeme) (from rest : List Token) → Lexed row.Int x from rest → r.primary sub stmt from ≡ Some ((tree.Integer x, 1), rest)
+  unfolding r.primary
+  integer_read x from rest h = rw (row_at row.Int true h refl, lexed_at row.Int x h) refl
+
+  character_read : (x : Lexeme) (from rest : List Token) → Lexed row.Char x from rest → r.primary sub stmt from ≡ Some ((tree.Character x, 1), rest)
+  unfolding r.primary
+  character_read x from rest h = rw (row_at row.Int false h refl, row_at row.Char true h refl, lexed_at row.Char x h) refl
+
+  parenthesized_first : {s : Spot} {from m : List Token} → At (mark "(") s from m → r.primary sub stmt from ≡ r.parenthesized sub stmt from
+  unfolding r.primary mark
+  parenthesized_first h = rw (row_at row.Int false h refl, row_at row.Char false h refl, row_at row.Reserved false h refl, sees_at row.Mark (codes "(") h) refl
+
+  stepped_grows : (h : ℕ) (x : Expr) (ts : List Token) → max h 0 < 64 → grown x h ts ≡ Some ((x, max h 0 + 1), ts)
+  stepped_grows h x ts lt = let same : max h 0 ≡ h = omega arith in rw same (grows x h ts (omega (arith, lt)))
+
+  postfix_layer : (m : ℕ) → m ≤ n → ((x : Expr) (from rest : List Token) → Derives m (an_expr 13 x) from rest → NoCall rest → PostfixTo m x from rest) →
+      (y : ExprLayer) (from rest : List Token) → ExprRule (Derives m) 13 y from rest → NoCall rest → PostfixTo (suc m) (made y) from rest
+  unfolding r.named_primary r.called r.parenthesized r.reserved_primary r.static_cast r.functional_cast r.group_barrier r.property r.in_order r.initialize_to_identity r.error_code r.function_object r.library_call r.postfix r.subscript r.member r.stepped mark keyword identifier one_word_of keyword_of fixed_width_of
+  postfix_layer m le left (Expr-F.Integer x) from rest d follows = based (suc m) 1 (tree.Integer x) from rest (omega arith) (plain from (row_at row.Mark false d refl)) (integer_read x from rest d)
+  postfix_layer m le left (Expr-F.Character x) from rest d follows = based (suc m) 1 (tree.Character x) from rest (omega arith) (plain from (row_at row.Mark false d refl)) (character_read x from rest d)
+  postfix_layer m le left (Expr-F.Boolean s true) from rest d follows =
+      based (suc m) 1 (tree.Boolean s true) from rest (omega arith) (plain from (row_at row.Mark false d refl))
+      (reserved_first from (row_at row.Reserved true d refl) ∙ rw (sees_at row.Reserved (codes "true") d, expect_at row.Reserved (codes "true") d) refl)
+  postfix_layer m le left (Expr-F.Boolean s false) from rest d follows =
+      based (suc m) 1 (tree.Boolean s false) from rest (omega arith) (plain from (row_at row.Mark false d refl))
+      (reserved_first from (row_at row.Reserved true d refl) ∙ rw (sees_other row.Reserved (codes "true") d refl, sees_at row.Reserved (codes "false") d, expect_at row.Reserved (codes "false") d) refl)
+  postfix_layer m le left (Expr-F.Name x) from rest d follows =
+      based (suc m) 1 (tree.Name x) from rest (omega arith) (plain from (row_at row.Mark false d refl)) (name_first x from rest d follows.1 ∙ rw (lexed_at row.Ident x d, follows.0) refl)
+  postfix_layer m le left (Expr-F.Call f xs e) from rest d follows =
+      let all = exprs_read m le xs e d.1 d.2 rest d.5 d.6 in
+      let lt : all.0 < 64 = omega (arith, all.1, le, small) in
+      based (suc m) (all.0 + 1) (tree.Call f xs e) from rest (omega (arith, all.1)) (plain from (row_at row.Mark false d.3 refl))
+      (name_first f from d.0 d.3 (sees_other row.Mark (codes "::") d.4.1 refl) ∙ rw (lexed_at row.Ident f d.3, sees_at row.Mark (codes "(") d.4.1, expect_at row.Mark (codes "(") d.4.1, all.2, expect_at row.Mark (codes ")") d.6, grows {A = Expr} _ _ _ lt) refl)
+  postfix_layer m le left (Expr-F.Parenthesized s x e) from rest d follows =
+      let v = any_read m le x d.0 d.1 d.3 (parenthesis_ends d.4) in
+      let lt : v.0 < 64 = omega (arith, v.1, le, small) in
+      based (suc m) (v.0 + 1) (tree.Parenthesized s x e) from rest (omega (arith, v.1)) (in_parentheses d.2 (typed_call m 1 x d.0 d.1 d.3))
+      (parenthesized_first d.2 ∙ rw (expect_at row.Mark (codes "(") d.2, v.2, expect_at row.Mark (codes ")") d.4, grows {A = Expr} _ _ _ lt) refl)
+  postfix_layer m le left (Expr-F.StaticCast s t x e) from rest d follows =
+      let p = parenthesis_read m le x e d.3 d.4 d.5 rest d.10 d.11 d.12 in
+      let lt : p.0 < 64 = omega (arith, p.1, le, small) in
+      based (suc m) (p.0 + 1) (tree.StaticCast s t x e) from rest (omega (arith, p.1)) (plain from (row_at row.Mark false d.6 refl))
+      (reserved_first from (row_at row.Reserved true d.6 refl) ∙ rw (sees_other row.Reserved (codes "true") d.6 refl, sees_other row.Reserved (codes "false") d.6 refl, sees_at row.Reserved (codes "static_cast") d.6,
+      expect_at row.Reserved (codes "static_cast") d.6, expect_at row.Mark (codes "<") d.7.1, integral_read t d.1 d.2 (row_at row.Reserved false d.9.1 refl) d.8, expect_at row.Mark (codes ">") d.9.1, p.2, grows {A = Expr} _ _ _ lt) refl)
+  postfix_layer m le left (Expr-F.FunctionalCast t x e) from rest d follows =
+      let p = parenthesis_read m le x e d.0 d.1 d.2 rest d.4 d.5 d.6 in
+      let lt : p.0 < 64 = omega (arith, p.1, le, small) in
+      let is_type = integral_type t from d.0 d.3.0 in
+      let reserved = type_row from is_type in
+      based (suc m) (p.0 + 1) (tree.FunctionalCast t x e) from rest (omega (arith, p.1)) (plain from (other_row row.Reserved row.Mark from reserved refl))
+      (reserved_first from reserved ∙ rw (not_type (codes "true") refl from is_type, not_type (codes "false") refl from is_type, not_type (codes "static_cast") refl from is_type,
+      one_word_read t from d.0 d.3, p.2, grows {A = Expr} _ _ _ lt) refl)
+  postfix_layer m le left (Expr-F.Construct t b s xs e) from rest d follows =
+      let c = construct_read m le t b s xs e from d.0 rest d.1 d.2 in
+      based (suc m) c.0 (tree.Construct t b s xs e) from rest c.1 (library_plain (object_at t from d.0 d.1).3) c.2
+  postfix_layer m le left (Expr-F.GroupBarrier q x e) from rest d follows =
+      let p = parenthesis_read m le x e d.0 d.1 d.2 rest d.4 d.5 d.6 in
+      let lt : p.0 < 64 = omega (arith, p.1, le, small) in
+      based (suc m) (p.0 + 1) (tree.GroupBarrier q x e) from rest (omega (arith, p.1)) (library_plain d.3.2)
+      (library_at "group_barrier" q from d.0 d.3 ∙ barrier_read q d.0 ∙ rw (p.2, grows {A = Expr} _ _ _ lt) refl)
+  postfix_layer m le left (Expr-F.AccessTag q t) from rest d follows =
+      based (suc m) 1 (tree.AccessTag q t) from rest (omega arith) (library_plain d.2) (library_at (tag_spelling t) q from rest d ∙ access_read t q rest)
+  postfix_layer m le left (Expr-F.InOrder q b e) from rest d follows =
+      based (suc m) 1 (tree.InOrder q b e) from rest (omega arith) (library_plain d.6.2)
+      (library_at "property" q from d.0 d.6 ∙ property_read q d.0 ∙ rw (expect_at row.Mark (codes "::") d.7.1, sees_at row.Ident (codes "queue") d.8.1, expect_at row.Ident (codes "queue") d.8.1,
+      expect_at row.Mark (codes "::") d.9.1, expect_at row.Ident (codes "in_order") d.10.1, empty_brackets_read b d.11.0 e d.4 d.5 rest d.11.1 d.12) refl)
+  postfix_layer m le left (Expr-F.ErrorCode q x) from rest d follows =
+      based (suc m) 1 (tree.ErrorCode q x) from rest (omega arith) (library_plain d.2.2)
+      (library_at "errc" q from d.0 d.2 ∙ error_read q d.0 ∙ rw (expect_at row.Mark (codes "::") d.3.1, lexed_at row.Ident x d.4) refl)
+  postfix_layer m le left (Expr-F.InitializeToIdentity q b e) from rest d follows =
+      based (suc m) 1 (tree.InitializeToIdentity q b e) from rest (omega arith) (library_plain d.6.2)
+      (library_at "property" q from d.0 d.6 ∙ property_read q d.0 ∙ rw (expect_at row.Mark (codes "::") d.7.1, sees_other row.Ident (codes "queue") d.8.1 refl, expect_at row.Ident (codes "reduction") d.8.1,
+      expect_at row.Mark (codes "::") d.9.1, expect_at row.Ident (codes "initialize_to_identity") d.10.1, empty_brackets_read b d.11.0 e d.4 d.5 rest d.11.1 d.12) refl)
+  postfix_layer m le left (Expr-F.FunctionObject q f t b e) from rest d follows =
+      based (suc m) 1 (tree.FunctionObject q f t b e) from rest (omega arith) (library_plain d.5.2)
+      (library_at (object_spelling f) q from d.0 d.5 ∙ function_object_read f q d.0 ∙ rw (expect_at row.Mark (codes "<") d.6.1, maybe_integral_read t d.1 d.2 d.3 d.7 d.8, expect_at row.Mark (codes ">") d.8.1,
+      empty_brackets_read b d.9.0 e d.3 d.4 rest d.9.1 d.10) refl)
+  postfix_layer m le left (Expr-F.LibraryCall q f xs e) from rest d follows =
+      let all = arguments_read m le brackets.Parentheses xs e d.1 d.2 rest d.5 d.6 in
+      let lt : all.0 < 64 = omega (arith, all.1, le, small) in
+      based (suc m) (all.0 + 1) (tree.LibraryCall q f xs e) from rest (omega (arith, all.1)) (library_plain d.3.2)
+      (library_at (function_spelling f) q from d.0 d.3 ∙ call_read f q d.0 ∙ rw (expect_at row.Mark (codes "(") d.4.1, all.2, expect_at row.Mark (codes ")") d.6, grows {A = Expr} _ _ _ lt) refl)
+  postfix_layer m le left (Expr-F.Subscript a s x e) from rest d follows =
+      let base = left a from d.0 d.3 (other_mark (codes "[") refl refl d.4) in
+      let v = any_read m le x d.1 d.2 d.5 (bracket_ends d.6) in
+      let lt : max base.0 v.0 < 64 = omega (arith, base.2, v.1, le, small) in
+      stepped m v.0 a (tree.Subscript a s x e) from d.0 rest base le (omega (arith, base.2, v.1)) (binds_at (codes "[") d.4 ∙ subscript_binds)
+      (rw (sees_at row.Mark (codes "[") d.4, expect_at row.Mark (codes "[") d.4, v.2, expect_at row.Mark (codes "]") d.6, grows {A = Expr} _ _ _ lt) refl)
+  postfix_layer m le left (Expr-F.MemberCall a x t xs e) from rest d follows =
+      let base = left a from d.0 d.6 (other_mark (codes ".") refl refl d.7.1) in
+      let all = arguments_read m le brackets.Parentheses xs e d.4 d.5 rest d.11 d.12 in
+      let lt : max base.0 all.0 < 64 = omega (arith, base.2, all.1, le, small) in
+      stepped m all.0 a (tree.MemberCall a x t xs e) from d.0 rest base le (omega (arith, base.2, all.1)) (binds_at (codes ".") d.7.1 ∙ dot_binds)
+      (rw (sees_other row.Mark (codes "[") d.7.1 refl, sees_at row.Mark (codes ".") d.7.1, expect_at row.Mark (codes ".") d.7.1, lexed_at row.Ident x d.8,
+      maybe_template_argument_read x t d.2 d.3 (sees_other row.Mark (codes "<") d.10.1 refl) d.9, expect_at row.Mark (codes "(") d.10.1, all.2, expect_at row.Mark (codes ")") d.12, grows {A = Expr} _ _ _ lt) refl)
+  postfix_layer m le left (Expr-F.Postfix a s o) from rest d follows =
+      let on = step_goes_on o d.2 in
+      let base = left a from d.0 d.1 on.0 in
+      let lt : max base.0 0 < 64 = omega (arith, base.2, le, small) in
+      stepped m 0 a (tree.Postfix a s o) from d.0 rest base le (omega (arith, base.2)) on.1
+      (rw (on.2, on.3, mark_text_at (codes (step_spelling o)) d.2, step_row o, advance_at d.2) (stepped_grows base.0 (tree.Postfix a s o) rest lt))
+  postfix_layer m le left (Expr-F.Prefix s o a) from rest d follows = absurd (omega (arith, d.0))
+  postfix_layer m le left (Expr-F.Unary s o a) from rest d follows = absurd (omega (arith, d.0))
+  postfix_layer m le left (Expr-F.Cast s t a) from rest d follows = absurd (omega (arith, d.0))
+  postfix_layer m le left (Expr-F.Binary a s o b) from rest d follows = absurd (omega (arith, d.0, level_bounds o))
+  postfix_layer m le left (Expr-F.Conditional a s b c) from rest d follows = absurd (omega (arith, d.0))
+
+  postfix_spine : (m : ℕ) → m ≤ suc n → (x : Expr) (from rest : List Token) → Derives m (an_expr 13 x) from rest → NoCall rest → PostfixTo m x from rest
+  unfolding Derives
+  postfix_spine zero le x from rest d follows = absurd d
+  postfix_spine (suc m) le x from rest d follows =
+      let low : m ≤ n = omega arith in
+      subst (λ z. PostfixTo (suc m) z from rest) (made_out x)
+      (postfix_layer m low (postfix_spine m (omega arith)) (out-Expr x) from rest d follows)
