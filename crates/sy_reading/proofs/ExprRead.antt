@@ -844,3 +844,148 @@ module _ (sub : ℕ → Reader (Tall Expr)) (stmt : Reader (Tall Stmt)) (n : ℕ
       let low : m ≤ n = omega arith in
       subst (λ z. PostfixTo (suc m) z from rest) (made_out x)
       (postfix_layer m low (postfix_spine m (omega arith)) (out-Expr x) from rest d follows)
+
+  -- ---- what is read up to the end of an expression, at a level that is no tighter
+
+  abbrev ChainTo : ℕ → ℕ → Expr → List Token → List Token → Type 0
+  ChainTo m l x from rest = (h k : ℕ) × (h ≤ m) × (65 ≤ k + h) × (r.chain sub stmt l from ≡ r.climb sub stmt k l (x, h) rest)
+
+  after_prefix : (m l : ℕ) (x : Expr) (from rest : List Token) → ReadsAs (r.prefix sub stmt from) m x rest → ChainTo m l x from rest
+  unfolding r.chain
+  after_prefix m l x from rest p = (p.0, 65, p.1, omega arith, rw p.2 refl)
+
+  no_postfix : (k : ℕ) (a : Tall Expr) (ts : List Token) → r.binds ts < 13 → 0 < k → r.postfixes sub stmt k a ts ≡ Some (a, ts)
+  unfolding r.postfixes
+  no_postfix zero a ts lt some = absurd (omega arith)
+  no_postfix (suc k) a ts lt some = let t = lt-ltb (r.binds ts) 13 lt in rw t refl
+
+  no_operator : (k l : ℕ) (a : Tall Expr) (ts : List Token) → r.binds ts < l → 0 < k → r.climb sub stmt k l a ts ≡ Some (a, ts)
+  unfolding r.climb
+  no_operator zero l a ts lt some = absurd (omega arith)
+  no_operator (suc k) l a ts lt some = let t = lt-ltb (r.binds ts) l lt in rw t refl
+
+  after_postfixes : (m l : ℕ) → m ≤ 64 → (x : Expr) (from rest : List Token) → r.binds rest < 13 → PostfixTo m x from rest → ChainTo m l x from rest
+  after_postfixes m l le x from rest lt p =
+      after_prefix m l x from rest (p.0, p.2, p.4 ∙ no_postfix p.1 (x, p.0) rest lt (omega (arith, p.2, p.3)))
+
+  one_operation : (k l : ℕ) (a b : Tall Expr) (us ts : List Token) → l ≤ r.binds us → r.operation sub stmt a us ≡ Some (b, ts) → r.climb sub stmt (suc k) l a us ≡ r.climb sub stmt k l b ts
+  unfolding r.climb
+  one_operation k l a b us ts le e = let t = le-ltb (r.binds us) l le in rw (t, e) refl
+
+  -- one more operator, behind what stands on the left
+  operated : (m l g : ℕ) (a z : Expr) (from us ts : List Token) (left : ChainTo m l a from us) → m ≤ n → max left.0 g ≤ m → l ≤ r.binds us →
+      r.operation sub stmt (a, left.0) us ≡ Some ((z, max left.0 g + 1), ts) → ChainTo (suc m) l z from ts
+  operated m l g a z from us ts left le high t e =
+      let turn : left.1 ≡ suc (left.1 - 1) = omega (arith, left.2, left.3, le, small) in (
+        max left.0 g + 1,
+        left.1 - 1,
+        omega (arith, high),
+        omega (arith, left.2, left.3, le, small),
+        left.4 ∙ ap (λ k. r.climb sub stmt k l (a, left.0) us) turn ∙ one_operation (left.1 - 1) l (a, left.0) (z, max left.0 g + 1) us ts t e,
+      )
+
+  binary_read : (s : Spot) (o : Operator) (a : Tall Expr) (b : Expr) (h : ℕ) (us mid ts : List Token) → max a.1 h < 64 → At (mark (spelling o)) s us mid → sub (level o + 1) mid ≡ Some ((b, h), ts) →
+      r.operation sub stmt a us ≡ Some ((tree.Binary a.0 s o b, max a.1 h + 1), ts)
+  unfolding r.operation r.binary mark
+  binary_read s o a b h us mid ts lt at e =
+      rw (sees_other row.Mark (codes "?") at (no_question o), mark_text_at (codes (spelling o)) at, operator_row o, advance_at at, e, grows {A = Expr} _ _ _ lt) refl
+
+  conditional_read : (s : Spot) (a : Tall Expr) (b c : Expr) (h g : ℕ) (us mid i j ts : List Token) → max a.1 (max h g) < 64 → At (mark "?") s us mid → sub 1 mid ≡ Some ((b, h), i) →
+      Sees (mark ":") i j → sub 1 j ≡ Some ((c, g), ts) → r.operation sub stmt a us ≡ Some ((tree.Conditional a.0 s b c, max a.1 (max h g) + 1), ts)
+  unfolding r.operation r.conditional mark
+  conditional_read s a b c h g us mid i j ts lt at e k f =
+      rw (sees_at row.Mark (codes "?") at, expect_at row.Mark (codes "?") at, e, expect_at row.Mark (codes ":") k.1, f, grows {A = Expr} _ _ _ lt) refl
+
+  cast_read : (s : Spot) (t : IntegerType) (a : Expr) (h : ℕ) (from m k i rest : List Token) → h < 64 → At (mark "(") s from m → Integral t m k → Sees (mark ")") k i → sub 12 i ≡ Some ((a, h), rest) →
+      r.prefix sub stmt from ≡ Some ((tree.Cast s t a, h + 1), rest)
+  unfolding r.prefix r.cast_or_postfix r.sees_cast r.cast step_of unary_of mark
+  cast_read s t a h from m k i rest lt at d c e =
+      rw (mark_text_at (codes "(") at, sees_at row.Mark (codes "(") at, next_at at, integral_type t m k d, integral_next (codes "(") t m k d (sees_other row.Mark (codes "(") c.1 refl),
+      expect_at row.Mark (codes "(") at, integral_read t m k (row_at row.Reserved false c.1 refl) d, expect_at row.Mark (codes ")") c.1, e, grows {A = Expr} _ _ _ lt) refl
+
+  step_read : (s : Spot) (o : Step) (a : Expr) (h : ℕ) (from m rest : List Token) → h < 64 → At (mark (step_spelling o)) s from m → sub 12 m ≡ Some ((a, h), rest) →
+      r.prefix sub stmt from ≡ Some ((tree.Prefix s o a, h + 1), rest)
+  unfolding r.prefix r.prefix_step mark
+  step_read s o a h from m rest lt at e = rw (mark_text_at (codes (step_spelling o)) at, step_row o, advance_at at, e, grows {A = Expr} _ _ _ lt) refl
+
+  unary_read : (s : Spot) (o : UnOp) (a : Expr) (h : ℕ) (from m rest : List Token) → h < 64 → At (mark (unary_spelling o)) s from m → sub 12 m ≡ Some ((a, h), rest) →
+      r.prefix sub stmt from ≡ Some ((tree.Unary s o a, h + 1), rest)
+  unfolding r.prefix r.unary mark
+  unary_read s o a h from m rest lt at e =
+      let k = unary_row o in rw (mark_text_at (codes (unary_spelling o)) at, k.0, k.1, advance_at at, e, grows {A = Expr} _ _ _ lt) refl
+
+  -- a postfix expression, where less binds what follows
+  postfixed : (m : ℕ) → m ≤ n → (y : ExprLayer) (from rest : List Token) → ExprRule (Derives m) 13 y from rest → r.binds rest < 13 → PostfixTo (suc m) (made y) from rest
+  postfixed m le y from rest d lt =
+      postfix_layer m le (postfix_spine m (omega arith)) y from rest d (binds_no (codes "(") opening_binds rest lt, binds_no (codes "::") colons_binds rest lt)
+
+  boolean_level : (S : Rule Node) (l : ℕ) (s : Spot) (b : Bool) (from rest : List Token) → ExprRule S l (Expr-F.Boolean s b) from rest → ExprRule S 13 (Expr-F.Boolean s b) from rest
+  boolean_level S l s true from rest d = d
+  boolean_level S l s false from rest d = d
+
+  question_at : {s : Spot} {from rest : List Token} → At (mark "?") s from rest → r.binds from ≡ 1
+  unfolding mark
+  question_at h = binds_at (codes "?") h ∙ question_binds
+
+  spine_layer : (m l : ℕ) → m ≤ n → l ≤ 13 → ((x : Expr) (from rest : List Token) → Derives m (an_expr l x) from rest → r.binds rest < edge (out-Expr x) → ChainTo m l x from rest) →
+      (y : ExprLayer) (from rest : List Token) → ExprRule (Derives m) l y from rest → r.binds rest < edge y → PostfixTo (suc m) (made y) from rest ⊎ ChainTo (suc m) l (made y) from rest
+  spine_layer m l le top left (Expr-F.Prefix s o a) from rest d ends =
+      let v = whole m 12 a d.1.0 rest le (omega arith) d.1.2 ends in
+      inr (after_prefix (suc m) l _ from rest (v.0 + 1, omega (arith, v.1), step_read s o a v.0 from d.1.0 rest (omega (arith, v.1, le, small)) d.1.1 v.2))
+  spine_layer m l le top left (Expr-F.Unary s o a) from rest d ends =
+      let v = whole m 12 a d.1.0 rest le (omega arith) d.1.2 ends in
+      inr (after_prefix (suc m) l _ from rest (v.0 + 1, omega (arith, v.1), unary_read s o a v.0 from d.1.0 rest (omega (arith, v.1, le, small)) d.1.1 v.2))
+  spine_layer m l le top left (Expr-F.Cast s t a) from rest d ends =
+      let v = whole m 12 a d.1.2 rest le (omega arith) d.1.6 ends in
+      inr (after_prefix (suc m) l _ from rest (v.0 + 1, omega (arith, v.1), cast_read s t a v.0 from d.1.0 d.1.1 d.1.2 rest (omega (arith, v.1, le, small)) d.1.3 d.1.4 d.1.5 v.2))
+  spine_layer m l le top left (Expr-F.Binary a s o b) from rest d ends =
+      let bounds = level_bounds o in
+      let binds = operator_binds o d.1.3 in
+      let first = left a from d.1.0 (Derives-looser m (level o) l d.0 a from d.1.0 d.1.2) (left_ends m (level o) a from d.1.0 d.1.2 (omega (arith, binds)) bounds.0 bounds.1) in
+      let second = whole m (level o + 1) b d.1.1 rest le (omega (arith, bounds)) d.1.4 ends in
+      let lt : max first.0 second.0 < 64 = omega (arith, first.2, second.1, le, small) in
+      inr (operated m l second.0 a (tree.Binary a s o b) from d.1.0 rest first le (omega (arith, first.2, second.1)) (omega (arith, binds, d.0))
+      (binary_read s o (a, first.0) b second.0 d.1.0 d.1.1 rest lt d.1.3 second.2))
+  spine_layer m l le top left (Expr-F.Conditional a s b c) from rest d ends =
+      let binds = question_at d.1.5 in
+      let first = left a from d.1.0 (Derives-looser m 2 l (omega (arith, d.0)) a from d.1.0 d.1.4) (left_ends m 2 a from d.1.0 d.1.4 (omega (arith, binds)) (omega arith) (omega arith)) in
+      let second = any_read m le b d.1.1 d.1.2 d.1.6 (colon_ends d.1.7.1) in
+      let third = any_read m le c d.1.3 rest d.1.8 ends in
+      let lt : max first.0 (max second.0 third.0) < 64 = omega (arith, first.2, second.1, third.1, le, small) in
+      inr (operated m l (max second.0 third.0) a (tree.Conditional a s b c) from d.1.0 rest first le (omega (arith, first.2, second.1, third.1)) (omega (arith, binds, d.0))
+      (conditional_read s (a, first.0) b c second.0 third.0 d.1.0 d.1.1 d.1.2 d.1.3 rest lt d.1.5 second.2 d.1.7 third.2))
+  spine_layer m l le top left (Expr-F.Boolean s b) from rest d ends = inl (postfixed m le (Expr-F.Boolean s b) from rest (boolean_level (Derives m) l s b from rest d) ends)
+  spine_layer m l le top left (Expr-F.Integer x) from rest d ends = inl (postfixed m le (Expr-F.Integer x) from rest d ends)
+  spine_layer m l le top left (Expr-F.Character x) from rest d ends = inl (postfixed m le (Expr-F.Character x) from rest d ends)
+  spine_layer m l le top left (Expr-F.Name x) from rest d ends = inl (postfixed m le (Expr-F.Name x) from rest d ends)
+  spine_layer m l le top left (Expr-F.Call f xs e) from rest d ends = inl (postfixed m le (Expr-F.Call f xs e) from rest d ends)
+  spine_layer m l le top left (Expr-F.Parenthesized s x e) from rest d ends = inl (postfixed m le (Expr-F.Parenthesized s x e) from rest d ends)
+  spine_layer m l le top left (Expr-F.StaticCast s t x e) from rest d ends = inl (postfixed m le (Expr-F.StaticCast s t x e) from rest d ends)
+  spine_layer m l le top left (Expr-F.FunctionalCast t x e) from rest d ends = inl (postfixed m le (Expr-F.FunctionalCast t x e) from rest d ends)
+  spine_layer m l le top left (Expr-F.Construct t b s xs e) from rest d ends = inl (postfixed m le (Expr-F.Construct t b s xs e) from rest d ends)
+  spine_layer m l le top left (Expr-F.GroupBarrier q x e) from rest d ends = inl (postfixed m le (Expr-F.GroupBarrier q x e) from rest d ends)
+  spine_layer m l le top left (Expr-F.AccessTag q t) from rest d ends = inl (postfixed m le (Expr-F.AccessTag q t) from rest d ends)
+  spine_layer m l le top left (Expr-F.InOrder q b e) from rest d ends = inl (postfixed m le (Expr-F.InOrder q b e) from rest d ends)
+  spine_layer m l le top left (Expr-F.ErrorCode q x) from rest d ends = inl (postfixed m le (Expr-F.ErrorCode q x) from rest d ends)
+  spine_layer m l le top left (Expr-F.InitializeToIdentity q b e) from rest d ends = inl (postfixed m le (Expr-F.InitializeToIdentity q b e) from rest d ends)
+  spine_layer m l le top left (Expr-F.FunctionObject q f t b e) from rest d ends = inl (postfixed m le (Expr-F.FunctionObject q f t b e) from rest d ends)
+  spine_layer m l le top left (Expr-F.LibraryCall q f xs e) from rest d ends = inl (postfixed m le (Expr-F.LibraryCall q f xs e) from rest d ends)
+  spine_layer m l le top left (Expr-F.Subscript a s x e) from rest d ends = inl (postfixed m le (Expr-F.Subscript a s x e) from rest d ends)
+  spine_layer m l le top left (Expr-F.MemberCall a x t xs e) from rest d ends = inl (postfixed m le (Expr-F.MemberCall a x t xs e) from rest d ends)
+  spine_layer m l le top left (Expr-F.Postfix a s o) from rest d ends = inl (postfixed m le (Expr-F.Postfix a s o) from rest d ends)
+
+  spine : (m l : ℕ) → m ≤ suc n → l ≤ 13 → (x : Expr) (from rest : List Token) → Derives m (an_expr l x) from rest → r.binds rest < edge (out-Expr x) → ChainTo m l x from rest
+  unfolding Derives
+  spine zero l le top x from rest d ends = absurd d
+  spine (suc m) l le top x from rest d ends =
+      let low : m ≤ n = omega arith in
+      let below : r.binds rest < 13 = omega (arith, edge_most (out-Expr x)) in
+      subst (λ z. ChainTo (suc m) l z from rest) (made_out x)
+      (⊎_elim (after_postfixes (suc m) l (omega (arith, low, small)) (made (out-Expr x)) from rest below) (λ c. c)
+      (spine_layer m l low top (spine m l (omega arith) top) (out-Expr x) from rest d ends))
+
+  -- An expression at the front of the tokens, which what follows doesn't go on with, is read.
+  pub chain_read : (m l : ℕ) → m ≤ suc n → l ≤ 13 → (x : Expr) (from rest : List Token) → Derives m (an_expr l x) from rest → r.binds rest < l → ReadsAs (r.chain sub stmt l from) m x rest
+  chain_read m l le top x from rest d lt =
+      let c = spine m l le top x from rest d (ends_there m l x from rest top d lt) in
+      (c.0, c.2, c.4 ∙ no_operator c.1 l (x, c.0) rest lt (omega (arith, c.2, c.3, le, small)))
