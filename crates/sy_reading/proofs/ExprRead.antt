@@ -65,6 +65,39 @@ use Rattle.sy_reading.proofs.Steps.{word, is_that, seen, and_both, same_row_is}
 use Rattle.sy_reading.proofs.ReadSteps.{sees_at, next_at, expect_at, sees_other, row_at, no_row, lexed_at, grows, at_length, passed, ReadsAs, list_short, all_listed_read, maybe_listed_read}
 use Rattle.sy_reading.proofs.PartsRead.{integral_next, and_no, opened_read, closed_read, empty_brackets_read, integral_read, integral_type, one_word_read, not_type, sycl_read, OfNames, object_named, captures_read, maybe_parameters_read, maybe_template_argument_read, namespace_at}
 
+use Rattle.sy_reading.specs.Stmts as st
+use Rattle.sy_reading.specs.Parts.{opened, type_specifier, const_specifier, object_type, declares_object, then_name, template_object, object_or}
+use Rattle.sy_reading.specs.Tables.{assignment_of, plain_object_of}
+use Rattle.sy_tree.specs.declared.operators.AssignmentOperator.{AssignmentOperator}
+use Rattle.sy_tree.specs.declared.operators.AssignmentOperator.TheVariants as asg
+use Rattle.sy_tree.specs.declared.parts.ConstSpecifier.{ConstSpecifier}
+use Rattle.sy_tree.specs.declared.parts.ConstSpecifier.TheVariants as const
+use Rattle.sy_tree.specs.declared.parts.TypeSpecifier.{TypeSpecifier}
+use Rattle.sy_tree.specs.declared.parts.TypeSpecifier.TheVariants as specifier
+use Rattle.sy_tree.specs.declared.tree.Argument.TheOpen.{Declaration-F, Declarator-F, Initializer-F, FullExpression-F, Printed-F, Stmt-F}
+use Rattle.sy_tree.specs.declared.tree.Declaration.{Declaration, out-Declaration, roll-Declaration, roll-out-Declaration}
+use Rattle.sy_tree.specs.declared.tree.Declaration.TheVariants as declaration
+use Rattle.sy_tree.specs.declared.tree.Declarator.{Declarator, out-Declarator, roll-Declarator, roll-out-Declarator}
+use Rattle.sy_tree.specs.declared.tree.Declarator.TheVariants as declarator
+use Rattle.sy_tree.specs.declared.tree.FullExpression.{FullExpression, out-FullExpression, roll-FullExpression, roll-out-FullExpression}
+use Rattle.sy_tree.specs.declared.tree.FullExpression.TheVariants as full
+use Rattle.sy_tree.specs.declared.tree.Initializer.{Initializer, out-Initializer, roll-Initializer, roll-out-Initializer}
+use Rattle.sy_tree.specs.declared.tree.Initializer.TheVariants as initializer
+use Rattle.sy_tree.specs.declared.tree.Printed.{Printed, out-Printed, roll-Printed, roll-out-Printed}
+use Rattle.sy_tree.specs.declared.tree.Printed.TheVariants as item
+use Rattle.sy_tree.specs.declared.tree.Stmt.{out-Stmt, roll-Stmt, roll-out-Stmt}
+use Rattle.sy_tree.specs.declared.tree.Stmt.TheVariants as ts
+use Rattle.sy_tree.specs.Declarations.{DeclaratorRule, OneDeclarator, InitializerRule, Initialized, DeclarationRule}
+use Rattle.sy_tree.specs.Expressions.{a_full, InParentheses}
+use Rattle.sy_tree.specs.Layers.{DeclarationLayer, DeclaratorLayer, FullExpressionLayer, InitializerLayer, PrintedLayer, StmtLayer}
+use Rattle.sy_tree.specs.Lists.{Maybe, OneOrMore}
+use Rattle.sy_tree.specs.Statements.{IsInitStatement, AnyFull, FullRule, PrintedRule, OnePrinted, InitStatement, StmtRule, BlockRule}
+use Rattle.sy_tree.specs.Types.{TypeSpecified, ConstSpecified}
+use Rattle.sy_tree.specs.Words.{Std, assignment_spelling}
+use Rattle.sy_reading.proofs.ReadSteps.{named_at, within_at, maybe_sees, maybe_after}
+use Rattle.sy_reading.proofs.PartsRead.{NoWord, type_specifier_read, const_specifier_read, object_read}
+use Rattle.sy_reading.specs.Input.{within}
+
 -- ---- trees from their layers
 
 abbrev pub made : ExprLayer → Expr
@@ -134,6 +167,108 @@ argued_roll (Argument-F.Lambda l) = sym (argument.rolls-Lambda l)
 
 argued_out : (x : Argument) → argued (out-Argument x) ≡ x
 argued_out x = argued_roll (out-Argument x) ∙ roll-out-Argument x
+
+abbrev declarator_made : DeclaratorLayer → Declarator
+declarator_made (Declarator-F.Uninitialized x) = declarator.Uninitialized x
+declarator_made (Declarator-F.Equal x s v) = declarator.Equal x s v
+declarator_made (Declarator-F.Bracketed x b s v e) = declarator.Bracketed x b s v e
+
+declarator_made_roll : (y : DeclaratorLayer) → declarator_made y ≡ roll-Declarator y
+declarator_made_roll (Declarator-F.Uninitialized x) = sym (declarator.rolls-Uninitialized x)
+declarator_made_roll (Declarator-F.Equal x s v) = sym (declarator.rolls-Equal x s v)
+declarator_made_roll (Declarator-F.Bracketed x b s v e) = sym (declarator.rolls-Bracketed x b s v e)
+
+declarator_made_out : (x : Declarator) → declarator_made (out-Declarator x) ≡ x
+declarator_made_out x = declarator_made_roll (out-Declarator x) ∙ roll-out-Declarator x
+
+abbrev initializer_made : InitializerLayer → Initializer
+initializer_made (Initializer-F.Copy s x) = initializer.Copy s x
+initializer_made (Initializer-F.Direct b s xs e) = initializer.Direct b s xs e
+
+initializer_made_roll : (y : InitializerLayer) → initializer_made y ≡ roll-Initializer y
+initializer_made_roll (Initializer-F.Copy s x) = sym (initializer.rolls-Copy s x)
+initializer_made_roll (Initializer-F.Direct b s xs e) = sym (initializer.rolls-Direct b s xs e)
+
+initializer_made_out : (x : Initializer) → initializer_made (out-Initializer x) ≡ x
+initializer_made_out x = initializer_made_roll (out-Initializer x) ∙ roll-out-Initializer x
+
+abbrev declaration_made : DeclarationLayer → Declaration
+declaration_made (Declaration-F.Integers c t ds e) = declaration.Integers c t ds e
+declaration_made (Declaration-F.Vector q t x v e) = declaration.Vector q t x v e
+declaration_made (Declaration-F.DeviceVector q x v e) = declaration.DeviceVector q x v e
+declaration_made (Declaration-F.ThreadVector q x e) = declaration.ThreadVector q x e
+declaration_made (Declaration-F.Thread q x b l e) = declaration.Thread q x b l e
+declaration_made (Declaration-F.Object t x v e) = declaration.Object t x v e
+
+declaration_made_roll : (y : DeclarationLayer) → declaration_made y ≡ roll-Declaration y
+declaration_made_roll (Declaration-F.Integers c t ds e) = sym (declaration.rolls-Integers c t ds e)
+declaration_made_roll (Declaration-F.Vector q t x v e) = sym (declaration.rolls-Vector q t x v e)
+declaration_made_roll (Declaration-F.DeviceVector q x v e) = sym (declaration.rolls-DeviceVector q x v e)
+declaration_made_roll (Declaration-F.ThreadVector q x e) = sym (declaration.rolls-ThreadVector q x e)
+declaration_made_roll (Declaration-F.Thread q x b l e) = sym (declaration.rolls-Thread q x b l e)
+declaration_made_roll (Declaration-F.Object t x v e) = sym (declaration.rolls-Object t x v e)
+
+declaration_made_out : (x : Declaration) → declaration_made (out-Declaration x) ≡ x
+declaration_made_out x = declaration_made_roll (out-Declaration x) ∙ roll-out-Declaration x
+
+abbrev full_made : FullExpressionLayer → FullExpression
+full_made (FullExpression-F.Plain x) = full.Plain x
+full_made (FullExpression-F.Assignment x s o y) = full.Assignment x s o y
+
+full_made_roll : (y : FullExpressionLayer) → full_made y ≡ roll-FullExpression y
+full_made_roll (FullExpression-F.Plain x) = sym (full.rolls-Plain x)
+full_made_roll (FullExpression-F.Assignment x s o y) = sym (full.rolls-Assignment x s o y)
+
+full_made_out : (x : FullExpression) → full_made (out-FullExpression x) ≡ x
+full_made_out x = full_made_roll (out-FullExpression x) ∙ roll-out-FullExpression x
+
+abbrev printed_made : PrintedLayer → Printed
+printed_made (Printed-F.Operand s x) = item.Operand s x
+printed_made (Printed-F.Text s x) = item.Text s x
+printed_made (Printed-F.EndLine s q) = item.EndLine s q
+
+printed_made_roll : (y : PrintedLayer) → printed_made y ≡ roll-Printed y
+printed_made_roll (Printed-F.Operand s x) = sym (item.rolls-Operand s x)
+printed_made_roll (Printed-F.Text s x) = sym (item.rolls-Text s x)
+printed_made_roll (Printed-F.EndLine s q) = sym (item.rolls-EndLine s q)
+
+printed_made_out : (x : Printed) → printed_made (out-Printed x) ≡ x
+printed_made_out x = printed_made_roll (out-Printed x) ∙ roll-out-Printed x
+
+abbrev stmt_made : StmtLayer → Stmt
+stmt_made (Stmt-F.Compound b) = ts.Compound b
+stmt_made (Stmt-F.Null s) = ts.Null s
+stmt_made (Stmt-F.Declaration d) = ts.Declaration d
+stmt_made (Stmt-F.Expression x e) = ts.Expression x e
+stmt_made (Stmt-F.Print q xs e) = ts.Print q xs e
+stmt_made (Stmt-F.Break s e) = ts.Break s e
+stmt_made (Stmt-F.Continue s e) = ts.Continue s e
+stmt_made (Stmt-F.Return s x e) = ts.Return s x e
+stmt_made (Stmt-F.If s c x y) = ts.If s c x y
+stmt_made (Stmt-F.While s c x) = ts.While s c x
+stmt_made (Stmt-F.Do s x c e) = ts.Do s x c e
+stmt_made (Stmt-F.For s a c b x) = ts.For s a c b x
+stmt_made (Stmt-F.RangeFor s fixed t by_reference name range x) = ts.RangeFor s fixed t by_reference name range x
+stmt_made (Stmt-F.Try s b name c) = ts.Try s b name c
+
+stmt_made_roll : (y : StmtLayer) → stmt_made y ≡ roll-Stmt y
+stmt_made_roll (Stmt-F.Compound b) = sym (ts.rolls-Compound b)
+stmt_made_roll (Stmt-F.Null s) = sym (ts.rolls-Null s)
+stmt_made_roll (Stmt-F.Declaration d) = sym (ts.rolls-Declaration d)
+stmt_made_roll (Stmt-F.Expression x e) = sym (ts.rolls-Expression x e)
+stmt_made_roll (Stmt-F.Print q xs e) = sym (ts.rolls-Print q xs e)
+stmt_made_roll (Stmt-F.Break s e) = sym (ts.rolls-Break s e)
+stmt_made_roll (Stmt-F.Continue s e) = sym (ts.rolls-Continue s e)
+stmt_made_roll (Stmt-F.Return s x e) = sym (ts.rolls-Return s x e)
+stmt_made_roll (Stmt-F.If s c x y) = sym (ts.rolls-If s c x y)
+stmt_made_roll (Stmt-F.While s c x) = sym (ts.rolls-While s c x)
+stmt_made_roll (Stmt-F.Do s x c e) = sym (ts.rolls-Do s x c e)
+stmt_made_roll (Stmt-F.For s a c b x) = sym (ts.rolls-For s a c b x)
+stmt_made_roll (Stmt-F.RangeFor s fixed t by_reference name range x) = sym (ts.rolls-RangeFor s fixed t by_reference name range x)
+stmt_made_roll (Stmt-F.Try s b name c) = sym (ts.rolls-Try s b name c)
+
+stmt_made_out : (x : Stmt) → stmt_made (out-Stmt x) ≡ x
+stmt_made_out x = stmt_made_roll (out-Stmt x) ∙ roll-out-Stmt x
 
 -- ---- the tables
 
@@ -254,6 +389,20 @@ function_row lib.ReduceOverGroup = (refl, refl, refl)
 function_row lib.ExclusiveScanOverGroup = (refl, refl, refl)
 function_row lib.InclusiveScanOverGroup = (refl, refl, refl)
 function_row lib.GroupBroadcast = (refl, refl, refl)
+
+assignment_row : (o : AssignmentOperator) → (assignment_of (codes (assignment_spelling o)) ≡ Some o) × (r.binds_by (codes (assignment_spelling o)) ≡ 0)
+unfolding assignment_of r.binds_by operator_of arithmetic_of comparison_of bitwise_of logical_of
+assignment_row asg.Assign = (refl, refl)
+assignment_row asg.Add = (refl, refl)
+assignment_row asg.Sub = (refl, refl)
+assignment_row asg.Mul = (refl, refl)
+assignment_row asg.Div = (refl, refl)
+assignment_row asg.Rem = (refl, refl)
+assignment_row asg.And = (refl, refl)
+assignment_row asg.Or = (refl, refl)
+assignment_row asg.Xor = (refl, refl)
+assignment_row asg.Shl = (refl, refl)
+assignment_row asg.Shr = (refl, refl)
 
 -- ---- what stands first
 
@@ -471,6 +620,115 @@ pub typed_call : (n l : ℕ) (x : Expr) (from rest : List Token) → Derives n (
 unfolding Derives
 typed_call zero l x from rest d = absurd d
 typed_call (suc n) l x from rest d = typed_layer (Derives n) (typed_call n) l (out-Expr x) from rest d
+
+-- ---- an expression declares nothing
+
+-- neither a name of `std` nor an object's declaration comes next
+abbrev pub NoDeclaration : List Token → Type 0
+NoDeclaration ts = (sees_namespace (codes "std") ts ≡ false) × (declares_object ts ≡ false)
+
+no_namespace : (space : List ℕ) (from : List Token) → sees_namespace space from ≡ false → named space from ≡ None
+unfolding sees_namespace sees named expect
+no_namespace space [] e = refl
+no_namespace space (t ∷ ts) e = by (is_word row.Ident space t.word) refl
+  where
+    second : (us : List Token) → sees row.Mark (codes "::") us ≡ false → expect row.Mark (codes "::") us ≡ None
+    second [] e = refl
+    second (u ∷ us) e = rw e refl
+
+    by : (b : Bool) → is_word row.Ident space t.word ≡ b → named space (t ∷ ts) ≡ None
+    by false is = rw is refl
+    by true is = rw (is, second ts (sym (ap (λ b. b && sees row.Mark (codes "::") ts) is) ∙ e)) refl
+
+no_names : (from : List Token) → sees_namespace (codes "std") from ≡ false → sees_namespace (codes "sycl") from ≡ false → NoDeclaration from
+unfolding declares_object object_type
+no_names from a b = (a, rw (no_namespace (codes "sycl") from b) refl)
+
+front_other : {w : Word} {s : Spot} {from rest : List Token} → At w s from rest → is_word row.Ident (codes "std") w ≡ false → is_word row.Ident (codes "sycl") w ≡ false → NoDeclaration from
+unfolding sees_namespace
+front_other {from = from} h a b = no_names from (rw (sees_other row.Ident (codes "std") h a) refl) (rw (sees_other row.Ident (codes "sycl") h b) refl)
+
+front_name : {w : Word} {s : Spot} {from rest : List Token} → At w s from rest → sees row.Mark (codes "::") rest ≡ false → NoDeclaration from
+unfolding sees_namespace
+front_name {from = from} h e =
+    no_names from (rw (next_at h, e) (and_no (sees row.Ident (codes "std") from))) (rw (next_at h, e) (and_no (sees row.Ident (codes "sycl") from)))
+
+front_library : (w : String) (q : Qualified) (from m : List Token) → Sycl w q from m → object_by q (codes w) m ≡ None → NoDeclaration from
+unfolding sees_namespace declares_object object_type identifier
+front_library w q from m h e = (rw (sees_other row.Ident (codes "std") h.2 refl) refl, rw (sycl_read w q from m h, e) refl)
+
+tag_no_object : (t : AccessTag) (q : Qualified) (m : List Token) → object_by q (codes (tag_spelling t)) m ≡ None
+unfolding object_by plain_object_of template_object
+tag_no_object tag.ReadOnly q m = refl
+tag_no_object tag.WriteOnly q m = refl
+tag_no_object tag.ReadWrite q m = refl
+tag_no_object tag.NoInit q m = refl
+
+function_object_no_object : (f : FunctionObject) (q : Qualified) (m : List Token) → object_by q (codes (object_spelling f)) m ≡ None
+unfolding object_by plain_object_of template_object
+function_object_no_object fun.Plus q m = refl
+function_object_no_object fun.Multiplies q m = refl
+function_object_no_object fun.Minimum q m = refl
+function_object_no_object fun.Maximum q m = refl
+function_object_no_object fun.BitAnd q m = refl
+function_object_no_object fun.BitOr q m = refl
+function_object_no_object fun.BitXor q m = refl
+
+call_no_object : (f : LibraryFunction) (q : Qualified) (m : List Token) → object_by q (codes (function_spelling f)) m ≡ None
+unfolding object_by plain_object_of template_object
+call_no_object lib.Reduction q m = refl
+call_no_object lib.ReduceOverGroup q m = refl
+call_no_object lib.ExclusiveScanOverGroup q m = refl
+call_no_object lib.InclusiveScanOverGroup q m = refl
+call_no_object lib.GroupBroadcast q m = refl
+
+front_construct : (t : ObjectType) (b : Brackets) {s : Spot} (from i rest : List Token) → Object t from i → At (mark (opening b)) s i rest → NoDeclaration from
+unfolding sees_namespace declares_object identifier mark
+front_construct t brackets.Parentheses from i rest o h =
+    (rw (sees_other row.Ident (codes "std") (object_at t from i o).3 refl) refl, rw (object_read t from i (sees_other row.Mark (codes "<") h refl) o) (row_at row.Ident false h refl))
+front_construct t brackets.Braces from i rest o h =
+    (rw (sees_other row.Ident (codes "std") (object_at t from i o).3 refl) refl, rw (object_read t from i (sees_other row.Mark (codes "<") h refl) o) (row_at row.Ident false h refl))
+
+front_reserved : (from : List Token) → sees_row row.Reserved from ≡ true → NoDeclaration from
+unfolding sees_namespace
+front_reserved from h =
+    let ident = other_row row.Reserved row.Ident from h refl in
+    no_names from (rw (no_row row.Ident (codes "std") from ident) refl) (rw (no_row row.Ident (codes "sycl") from ident) refl)
+
+front_layer : (S : Rule Node) → ((l : ℕ) (x : Expr) (from rest : List Token) → S (an_expr l x) from rest → sees row.Mark (codes "::") rest ≡ false → NoDeclaration from) →
+    (l : ℕ) (y : ExprLayer) (from rest : List Token) → ExprRule S l y from rest → sees row.Mark (codes "::") rest ≡ false → NoDeclaration from
+unfolding mark keyword object_by plain_object_of template_object
+front_layer S f l (Expr-F.Integer x) from rest h e = front_other h refl refl
+front_layer S f l (Expr-F.Character x) from rest h e = front_other h refl refl
+front_layer S f l (Expr-F.Boolean s true) from rest h e = front_other h refl refl
+front_layer S f l (Expr-F.Boolean s false) from rest h e = front_other h refl refl
+front_layer S f l (Expr-F.Name x) from rest h e = front_name h e
+front_layer S f l (Expr-F.Call g xs c) from rest h e = front_name h.3 (sees_other row.Mark (codes "::") h.4.1 refl)
+front_layer S f l (Expr-F.Parenthesized s x c) from rest h e = front_other h.2 refl refl
+front_layer S f l (Expr-F.StaticCast s t x c) from rest h e = front_other h.6 refl refl
+front_layer S f l (Expr-F.FunctionalCast t x c) from rest h e = front_reserved from (type_row from (integral_type t from h.0 h.3.0))
+front_layer S f l (Expr-F.Construct t b s xs c) from rest h e = front_construct t b from h.0 h.2.0 h.1 h.2.2
+front_layer S f l (Expr-F.GroupBarrier q x c) from rest h e = front_library "group_barrier" q from h.0 h.3 refl
+front_layer S f l (Expr-F.AccessTag q t) from rest h e = front_library (tag_spelling t) q from rest h (tag_no_object t q rest)
+front_layer S f l (Expr-F.InOrder q b c) from rest h e = front_library "property" q from h.0 h.6 refl
+front_layer S f l (Expr-F.ErrorCode q x) from rest h e = front_library "errc" q from h.0 h.2 refl
+front_layer S f l (Expr-F.InitializeToIdentity q b c) from rest h e = front_library "property" q from h.0 h.6 refl
+front_layer S f l (Expr-F.FunctionObject q o t b c) from rest h e = front_library (object_spelling o) q from h.0 h.5 (function_object_no_object o q h.0)
+front_layer S f l (Expr-F.LibraryCall q g xs c) from rest h e = front_library (function_spelling g) q from h.0 h.3 (call_no_object g q h.0)
+front_layer S f l (Expr-F.Subscript a s x c) from rest h e = f 13 a from h.0 h.3 (sees_other row.Mark (codes "::") h.4 refl)
+front_layer S f l (Expr-F.MemberCall a x t xs c) from rest h e = f 13 a from h.0 h.6 (sees_other row.Mark (codes "::") h.7.1 refl)
+front_layer S f l (Expr-F.Postfix a s step.Increment) from rest h e = f 13 a from h.0 h.1 (sees_other row.Mark (codes "::") h.2 refl)
+front_layer S f l (Expr-F.Postfix a s step.Decrement) from rest h e = f 13 a from h.0 h.1 (sees_other row.Mark (codes "::") h.2 refl)
+front_layer S f l (Expr-F.Prefix s o a) from rest h e = front_other h.1.1 refl refl
+front_layer S f l (Expr-F.Unary s o a) from rest h e = front_other h.1.1 refl refl
+front_layer S f l (Expr-F.Cast s t a) from rest h e = front_other h.1.3 refl refl
+front_layer S f l (Expr-F.Binary a s o b) from rest h e = f (level o) a from h.1.0 h.1.2 (sees_other row.Mark (codes "::") h.1.3 (no_colons o))
+front_layer S f l (Expr-F.Conditional a s b c) from rest h e = f 2 a from h.1.0 h.1.4 (sees_other row.Mark (codes "::") h.1.5 refl)
+
+pub no_declaration : (n l : ℕ) (x : Expr) (from rest : List Token) → Derives n (an_expr l x) from rest → sees row.Mark (codes "::") rest ≡ false → NoDeclaration from
+unfolding Derives
+no_declaration zero l x from rest d e = absurd d
+no_declaration (suc n) l x from rest d e = front_layer (Derives n) (no_declaration n) l (out-Expr x) from rest d e
 
 -- ---- blocks and lambdas, where a statement of a height of at most n is read
 
@@ -989,3 +1247,76 @@ module _ (sub : ℕ → Reader (Tall Expr)) (stmt : Reader (Tall Stmt)) (n : ℕ
   chain_read m l le top x from rest d lt =
       let c = spine m l le top x from rest d (ends_there m l x from rest top d lt) in
       (c.0, c.2, c.4 ∙ no_operator c.1 l (x, c.0) rest lt (omega (arith, c.2, c.3, le, small)))
+
+  -- ---- declarations
+
+  -- what follows a declarator or an initializer
+  abbrev Closed : List Token → Type 0
+  Closed ts = (sees row.Mark (codes "=") ts ≡ false) × (sees row.Mark (codes "(") ts ≡ false) × (sees row.Mark (codes "{") ts ≡ false) × (r.binds ts < 1)
+
+  semicolon_closed : {s : Spot} {us ts : List Token} → At (mark ";") s us ts → Closed us
+  unfolding mark
+  semicolon_closed h = (sees_other row.Mark (codes "=") h refl, sees_other row.Mark (codes "(") h refl, sees_other row.Mark (codes "{") h refl, semicolon_ends h)
+
+  comma_closed : (us ts : List Token) → Sees (mark ",") us ts → Closed us
+  unfolding mark
+  comma_closed us ts h = (sees_other row.Mark (codes "=") h.1 refl, sees_other row.Mark (codes "(") h.1 refl, sees_other row.Mark (codes "{") h.1 refl, comma_ends us ts h)
+
+  closing_ends : (b : Brackets) {s : Spot} {us ts : List Token} → At (mark (closing b)) s us ts → r.binds us < 1
+  closing_ends brackets.Parentheses h = parenthesis_ends h
+  closing_ends brackets.Braces h = brace_ends h
+
+  declarator_layer : (m : ℕ) → m ≤ n → (y : DeclaratorLayer) (from rest : List Token) → DeclaratorRule (Derives m) y from rest → Closed rest → ReadsAs (st.one_declarator sub stmt from) m (declarator_made y) rest
+  unfolding st.one_declarator st.equal_declarator st.bracketed_declarator mark
+  declarator_layer m le (Declarator-F.Uninitialized x) from rest d e = (0, omega arith, rw (lexed_at row.Ident x d, e.0, e.1, e.2) refl)
+  declarator_layer m le (Declarator-F.Equal x s v) from rest d e =
+      let w = any_read m le v d.1 rest d.4 e.3 in
+      (w.0, w.1, rw (lexed_at row.Ident x d.2, sees_at row.Mark (codes "=") d.3, expect_at row.Mark (codes "=") d.3, w.2) refl)
+  declarator_layer m le (Declarator-F.Bracketed x brackets.Parentheses s v c) from rest d e =
+      let w = any_read m le v d.1 d.2 d.5 (parenthesis_ends d.6) in
+      (w.0, w.1, rw (lexed_at row.Ident x d.3, sees_other row.Mark (codes "=") d.4 refl, sees_at row.Mark (codes "(") d.4, opened_read brackets.Parentheses s d.0 d.1 d.4, w.2, closed_read brackets.Parentheses c d.2 rest d.6) refl)
+  declarator_layer m le (Declarator-F.Bracketed x brackets.Braces s v c) from rest d e =
+      let w = any_read m le v d.1 d.2 d.5 (brace_ends d.6) in
+      (w.0, w.1, rw (lexed_at row.Ident x d.3, sees_other row.Mark (codes "=") d.4 refl, sees_other row.Mark (codes "(") d.4 refl, sees_at row.Mark (codes "{") d.4, opened_read brackets.Braces s d.0 d.1 d.4, w.2, closed_read brackets.Braces c d.2 rest d.6) refl)
+
+  declarator_read : (m : ℕ) → m ≤ n → (x : Declarator) (from rest : List Token) → OneDeclarator (Derives m) x from rest → Closed rest → ReadsAs (st.one_declarator sub stmt from) m x rest
+  declarator_read m le x from rest d e = subst (λ z. ReadsAs (st.one_declarator sub stmt from) m z rest) (declarator_made_out x) (declarator_layer m le (out-Declarator x) from rest d e)
+
+  declarator_short : (m : ℕ) (x : Declarator) (from rest : List Token) → OneDeclarator (Derives m) x from rest → length rest ≤ length from
+  declarator_short m x from rest d = by (out-Declarator x) d
+    where
+      by : (y : DeclaratorLayer) → DeclaratorRule (Derives m) y from rest → length rest ≤ length from
+      by (Declarator-F.Uninitialized x) d = omega (arith, at_length d)
+      by (Declarator-F.Equal x s v) d = omega (arith, at_length d.2, at_length d.3, expr_short m v d.1 rest d.4)
+      by (Declarator-F.Bracketed x b s v e) d = omega (arith, at_length d.3, at_length d.4, expr_short m v d.1 d.2 d.5, at_length d.6)
+
+  declarator_first : (m : ℕ) (x : Declarator) (from rest : List Token) → OneDeclarator (Derives m) x from rest → sees_row row.Ident from ≡ true
+  declarator_first m x from rest d = by (out-Declarator x) d
+    where
+      by : (y : DeclaratorLayer) → DeclaratorRule (Derives m) y from rest → sees_row row.Ident from ≡ true
+      by (Declarator-F.Uninitialized x) d = row_at row.Ident true d refl
+      by (Declarator-F.Equal x s v) d = row_at row.Ident true d.2 refl
+      by (Declarator-F.Bracketed x b s v e) d = row_at row.Ident true d.3 refl
+
+  declarators_first : (m : ℕ) (xs : List Declarator) (from rest : List Token) → Listed (OneDeclarator (Derives m)) xs from rest → sees_row row.Ident from ≡ true
+  declarators_first m [] from rest d = absurd d
+  declarators_first m (x ∷ []) from rest d = declarator_first m x from rest d
+  declarators_first m (x ∷ y ∷ more) from rest d = declarator_first m x from d.0 d.2
+
+  initializer_layer : (m : ℕ) → m ≤ n → (y : InitializerLayer) (from rest : List Token) → InitializerRule (Derives m) y from rest → Closed rest → ReadsAs (st.maybe_initializer sub stmt from) m (Some (initializer_made y)) rest
+  unfolding st.maybe_initializer st.direct st.direct_arguments mark
+  initializer_layer m le (Initializer-F.Copy s x) from rest d e =
+      let w = any_read m le x d.0 rest d.2 e.3 in
+      (w.0, w.1, rw (sees_at row.Mark (codes "=") d.1, expect_at row.Mark (codes "=") d.1, w.2) refl)
+  initializer_layer m le (Initializer-F.Direct brackets.Parentheses s [] c) from rest d e = absurd d.0
+  initializer_layer m le (Initializer-F.Direct brackets.Parentheses s (x ∷ xs) c) from rest d e =
+      let w = argument_list_read m le (x ∷ xs) c d.1.0 d.1.1 rest d.1.3 d.1.4 in
+      (w.0, w.1, rw (sees_other row.Mark (codes "=") d.1.2 refl, sees_at row.Mark (codes "(") d.1.2, opened_read brackets.Parentheses s from d.1.0 d.1.2, w.2, closed_read brackets.Parentheses c d.1.1 rest d.1.4) refl)
+  initializer_layer m le (Initializer-F.Direct brackets.Braces s xs c) from rest d e =
+      let w = arguments_read m le brackets.Braces xs c d.1.0 d.1.1 rest d.1.3 d.1.4 in
+      (w.0, w.1, rw (sees_other row.Mark (codes "=") d.1.2 refl, sees_other row.Mark (codes "(") d.1.2 refl, sees_at row.Mark (codes "{") d.1.2, opened_read brackets.Braces s from d.1.0 d.1.2, w.2, closed_read brackets.Braces c d.1.1 rest d.1.4) refl)
+
+  initializer_read : (m : ℕ) → m ≤ n → (x : Option Initializer) (from rest : List Token) → Optional (Initialized (Derives m)) x from rest → Closed rest → ReadsAs (st.maybe_initializer sub stmt from) m x rest
+  unfolding st.maybe_initializer
+  initializer_read m le None from rest d e = (0, omega arith, rw (d, e.0, e.1, e.2) refl)
+  initializer_read m le (Some x) from rest d e = subst (λ z. ReadsAs (st.maybe_initializer sub stmt from) m (Some z) rest) (initializer_made_out x) (initializer_layer m le (out-Initializer x) from rest d e)
