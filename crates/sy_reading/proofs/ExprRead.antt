@@ -94,7 +94,7 @@ use Rattle.sy_tree.specs.Lists.{Maybe, OneOrMore}
 use Rattle.sy_tree.specs.Statements.{IsInitStatement, AnyFull, FullRule, PrintedRule, OnePrinted, InitStatement, StmtRule, BlockRule}
 use Rattle.sy_tree.specs.Types.{TypeSpecified, ConstSpecified}
 use Rattle.sy_tree.specs.Words.{Std, assignment_spelling}
-use Rattle.sy_reading.proofs.ReadSteps.{named_at, within_at, maybe_sees, maybe_after}
+use Rattle.sy_reading.proofs.ReadSteps.{after_none, after_at, named_at, within_at, maybe_sees, maybe_after}
 use Rattle.sy_reading.proofs.PartsRead.{NoWord, type_specifier_read, const_specifier_read, object_read}
 use Rattle.sy_reading.specs.Input.{within}
 
@@ -1320,3 +1320,179 @@ module _ (sub : ℕ → Reader (Tall Expr)) (stmt : Reader (Tall Stmt)) (n : ℕ
   unfolding st.maybe_initializer
   initializer_read m le None from rest d e = (0, omega arith, rw (d, e.0, e.1, e.2) refl)
   initializer_read m le (Some x) from rest d e = subst (λ z. ReadsAs (st.maybe_initializer sub stmt from) m (Some z) rest) (initializer_made_out x) (initializer_layer m le (out-Initializer x) from rest d e)
+
+  -- ---- full expressions
+
+  -- what follows one
+  abbrev FullEnded : List Token → Type 0
+  FullEnded ts = (r.binds ts < 1) × (assignment_of (mark_text ts) ≡ None)
+
+  semicolon_full : {s : Spot} {us ts : List Token} → At (mark ";") s us ts → FullEnded us
+  unfolding mark assignment_of
+  semicolon_full h = (semicolon_ends h, rw (mark_text_at (codes ";") h) refl)
+
+  parenthesis_full : {s : Spot} {us ts : List Token} → At (mark ")") s us ts → FullEnded us
+  unfolding mark assignment_of
+  parenthesis_full h = (parenthesis_ends h, rw (mark_text_at (codes ")") h) refl)
+
+  full_layer : (m : ℕ) → m ≤ n → (y : FullExpressionLayer) (from rest : List Token) → FullRule (Derives m) y from rest → FullEnded rest → ReadsAs (st.full_parts sub stmt from) m (full_made y) rest
+  unfolding st.full_parts mark
+  full_layer m le (FullExpression-F.Plain x) from rest d e =
+      let v = any_read m le x from rest d e.0 in
+      (v.0, v.1, rw (v.2, e.1) refl)
+  full_layer m le (FullExpression-F.Assignment x s o y) from rest d e =
+      let row = assignment_row o in
+      let v = any_read m le x from d.0 d.2 (closes (codes (assignment_spelling o)) row.1 d.3) in
+      let w = any_read m le y d.1 rest d.4 e.0 in
+      (max v.0 w.0, omega (arith, v.1, w.1), rw (v.2, mark_text_at (codes (assignment_spelling o)) d.3, row.0, advance_at d.3, w.2) refl)
+
+  full_parts_read : (m : ℕ) → m ≤ n → (x : FullExpression) (from rest : List Token) → FullRule (Derives m) (out-FullExpression x) from rest → FullEnded rest → ReadsAs (st.full_parts sub stmt from) m x rest
+  full_parts_read m le x from rest d e = subst (λ z. ReadsAs (st.full_parts sub stmt from) m z rest) (full_made_out x) (full_layer m le (out-FullExpression x) from rest d e)
+
+  full_read : (m : ℕ) → m ≤ suc n → (x : FullExpression) (from rest : List Token) → Derives m (a_full x) from rest → FullEnded rest → ReadsAs (st.full sub stmt from) m x rest
+  unfolding st.full Derives
+  full_read zero le x from rest d e = absurd d
+  full_read (suc m) le x from rest d e =
+      let low : m ≤ n = omega arith in
+      let v = full_parts_read m low x from rest d e in
+      let lt : v.0 < 64 = omega (arith, v.1, low, small) in
+      (v.0 + 1, omega (arith, v.1), rw (v.2, grows {A = FullExpression} _ _ _ lt) refl)
+
+  -- the expression that it begins with
+  full_begins : (m : ℕ) (y : FullExpressionLayer) (from rest : List Token) → FullRule (Derives m) y from rest → FullEnded rest → (x : Expr) × (mid : List Token) × Derives m (an_expr 1 x) from mid × (r.binds mid < 1)
+  unfolding mark
+  full_begins m (FullExpression-F.Plain x) from rest d e = (x, rest, d, e.0)
+  full_begins m (FullExpression-F.Assignment x s o y) from rest d e = (x, d.0, d.2, closes (codes (assignment_spelling o)) (assignment_row o).1 d.3)
+
+  -- ---- which reader of a statement it is
+
+  by_library : (from : List Token) → declares_object from ≡ false → cond (sees_namespace (codes "sycl") from) (st.library_statement sub stmt from) (st.expression sub stmt from) ≡ st.expression sub stmt from
+  unfolding st.library_statement
+  by_library from e = by (sees_namespace (codes "sycl") from)
+    where
+      by : (b : Bool) → cond b (cond (declares_object from) (st.declared sub stmt (st.object_declaration sub stmt) from) (st.expression sub stmt from)) (st.expression sub stmt from) ≡ st.expression sub stmt from
+      by true = rw e refl
+      by false = refl
+
+  either : {A : Type 0} (b : Bool) (x : A) → cond b x x ≡ x
+  either true x = refl
+  either false x = refl
+
+  expression_simple : (m : ℕ) (x : Expr) (from mid : List Token) → Derives m (an_expr 1 x) from mid → r.binds mid < 1 → st.simple sub stmt from ≡ st.expression sub stmt from
+  unfolding st.simple st.declares_integers
+  expression_simple m x from mid d lt =
+      let begins = Derives-begins m (an_expr 1 x) from mid d in
+      let declares = no_declaration m 1 x from mid d (binds_no (codes "::") colons_binds mid (omega (arith, lt))) in
+      rw (begins_no opens_expr row.Mark (codes ";") refl from begins, begins_no opens_expr row.Reserved (codes "const") refl from begins, begins_no opens_expr row.Reserved (codes "constexpr") refl from begins,
+      begins_no opens_expr row.Reserved (codes "auto") refl from begins, typed_call m 1 x from mid d, declares.0) (by_library from declares.1)
+
+  -- no word of a statement
+  abbrev NoStatement : List Token → Type 0
+  NoStatement ts = (sees row.Reserved (codes "if") ts ≡ false) × (sees row.Reserved (codes "break") ts ≡ false) × (sees row.Reserved (codes "continue") ts ≡ false) × (sees row.Reserved (codes "return") ts ≡ false)
+      × (sees row.Reserved (codes "while") ts ≡ false) × (sees row.Reserved (codes "do") ts ≡ false) × (sees row.Reserved (codes "for") ts ≡ false) × (sees row.Reserved (codes "try") ts ≡ false)
+
+  to_simple : (from : List Token) → sees row.Mark (codes "{") from ≡ false → NoStatement from → st.sees_print from ≡ false → st.one_stmt sub stmt from ≡ st.simple sub stmt from
+  unfolding st.one_stmt st.reserved st.repeated
+  to_simple from a w p = rw (a, p, w.0, w.1, w.2, w.3, w.4, w.5, w.6, w.7) (either (sees_row row.Reserved from) (st.simple sub stmt from))
+
+  expression_stmt : (m : ℕ) (x : Expr) (from mid : List Token) → Derives m (an_expr 1 x) from mid → r.binds mid < 1 → st.one_stmt sub stmt from ≡ st.expression sub stmt from
+  unfolding st.sees_print
+  expression_stmt m x from mid d lt =
+      let begins = Derives-begins m (an_expr 1 x) from mid d in
+      let declares = no_declaration m 1 x from mid d (binds_no (codes "::") colons_binds mid (omega (arith, lt))) in
+      to_simple from (begins_no opens_expr row.Mark (codes "{") refl from begins) (
+        begins_no opens_expr row.Reserved (codes "if") refl from begins,
+        begins_no opens_expr row.Reserved (codes "break") refl from begins,
+        begins_no opens_expr row.Reserved (codes "continue") refl from begins,
+        begins_no opens_expr row.Reserved (codes "return") refl from begins,
+        begins_no opens_expr row.Reserved (codes "while") refl from begins,
+        begins_no opens_expr row.Reserved (codes "do") refl from begins,
+        begins_no opens_expr row.Reserved (codes "for") refl from begins,
+        begins_no opens_expr row.Reserved (codes "try") refl from begins,
+      ) (rw declares.0 refl) ∙ expression_simple m x from mid d lt
+
+  -- ---- statements of words
+
+  condition_read : (m : ℕ) → m ≤ n → (x : Expr) (from rest : List Token) → InParentheses (Derives m) x from rest → ReadsAs (st.condition sub stmt from) m x rest
+  unfolding st.condition mark
+  condition_read m le x from rest d =
+      let v = any_read m le x d.0 d.1 d.3 (parenthesis_ends d.4.1) in
+      (v.0, v.1, rw (expect_at row.Mark (codes "(") d.2.1, v.2, expect_at row.Mark (codes ")") d.4.1) refl)
+
+  maybe_expr_read : (m : ℕ) → m ≤ n → (x : Option Expr) {s : Spot} (from mid rest : List Token) → Optional (AnyExpr (Derives m)) x from mid → At (mark ";") s mid rest → ReadsAs (st.maybe_expr sub stmt from) m x mid
+  unfolding st.maybe_expr mark
+  maybe_expr_read m le None from mid rest d c = (0, omega arith, rw (d, sees_at row.Mark (codes ";") c) refl)
+  maybe_expr_read m le (Some x) from mid rest d c =
+      let v = any_read m le x from mid d (semicolon_ends c) in
+      (v.0, v.1, rw (begins_no opens_expr row.Mark (codes ";") refl from (Derives-begins m (an_expr 1 x) from mid d), v.2) refl)
+
+  maybe_full_read : (m : ℕ) → m ≤ n → (x : Option FullExpression) {s : Spot} (from mid rest : List Token) → Optional (AnyFull (Derives m)) x from mid → At (mark ")") s mid rest → ReadsAs (st.maybe_full sub stmt from) m x mid
+  unfolding st.maybe_full mark
+  maybe_full_read m le None from mid rest d c = (0, omega arith, rw (d, sees_at row.Mark (codes ")") c) refl)
+  maybe_full_read m le (Some x) from mid rest d c =
+      let v = full_read m (omega arith) x from mid d (parenthesis_full c) in
+      (v.0, v.1, rw (begins_no opens_expr row.Mark (codes ")") refl from (Derives-begins m (a_full x) from mid d), v.2) refl)
+
+  no_else : (us : List Token) → ((after : List Token) → Sees (keyword "else") us after → ⊥) → sees row.Reserved (codes "else") us ≡ false
+  unfolding keyword
+  no_else us no_after = by (sees row.Reserved (codes "else") us) refl
+    where
+      by : (b : Bool) → sees row.Reserved (codes "else") us ≡ b → b ≡ false
+      by false is = refl
+      by true is = absurd (no_after (next us) (seen row.Reserved (codes "else") us is))
+
+  -- the statement that this layer is, one higher than what stands below
+  abbrev StmtAs : ℕ → StmtLayer → List Token → List Token → Type 0
+  StmtAs m y from rest = ReadsAs (st.one_stmt sub stmt from) (suc m) (stmt_made y) rest
+
+  -- the statements that begin with a word, but for loops with a header, and `try`
+  abbrev IsWord : StmtLayer → Type 0
+  IsWord (Stmt-F.Break s c) = Unit
+  IsWord (Stmt-F.Continue s c) = Unit
+  IsWord (Stmt-F.Return s x c) = Unit
+  IsWord (Stmt-F.If s c x y) = Unit
+  IsWord (Stmt-F.While s c x) = Unit
+  IsWord (Stmt-F.Do s x c z) = Unit
+  IsWord _ = ⊥
+
+  words_layer : (m : ℕ) → m ≤ n → (y : StmtLayer) (from rest : List Token) → StmtRule (Derives m) y from rest → IsWord y → StmtAs m y from rest
+  unfolding st.one_stmt st.reserved st.repeated st.break_loop st.continue_loop st.return_value st.branch st.otherwise st.while_loop st.do_loop st.null st.simple mark keyword
+  words_layer m le (Stmt-F.Break s c) from rest d w =
+      (1, omega arith, rw (sees_other row.Mark (codes "{") d.1 refl, row_at row.Reserved true d.1 refl, sees_other row.Reserved (codes "if") d.1 refl, sees_at row.Reserved (codes "break") d.1,
+      expect_at row.Reserved (codes "break") d.1, expect_at row.Mark (codes ";") d.2) refl)
+  words_layer m le (Stmt-F.Continue s c) from rest d w =
+      (1, omega arith, rw (sees_other row.Mark (codes "{") d.1 refl, row_at row.Reserved true d.1 refl, sees_other row.Reserved (codes "if") d.1 refl, sees_other row.Reserved (codes "break") d.1 refl,
+      sees_at row.Reserved (codes "continue") d.1, expect_at row.Reserved (codes "continue") d.1, expect_at row.Mark (codes ";") d.2) refl)
+  words_layer m le (Stmt-F.Return s x c) from rest d w =
+      let v = maybe_expr_read m le x d.0 d.1 rest d.3 d.4 in
+      let lt : v.0 < 64 = omega (arith, v.1, le, small) in
+      (v.0 + 1, omega (arith, v.1), rw (sees_other row.Mark (codes "{") d.2 refl, row_at row.Reserved true d.2 refl, sees_other row.Reserved (codes "if") d.2 refl, sees_other row.Reserved (codes "break") d.2 refl,
+      sees_other row.Reserved (codes "continue") d.2 refl, sees_at row.Reserved (codes "return") d.2, expect_at row.Reserved (codes "return") d.2, v.2, expect_at row.Mark (codes ";") d.4, grows {A = Stmt} _ _ _ lt) refl)
+  words_layer m le (Stmt-F.If s c x None) from rest d w =
+      let v = condition_read m le c d.0 d.1 d.3 in
+      let a = whole_stmt m x d.1 rest le d.4 in
+      let no_more = no_else rest d.5 in
+      let lt : max v.0 a.0 < 64 = omega (arith, v.1, a.1, le, small) in
+      (max v.0 a.0 + 1, omega (arith, v.1, a.1), rw (sees_other row.Mark (codes "{") d.2 refl, row_at row.Reserved true d.2 refl, sees_at row.Reserved (codes "if") d.2, expect_at row.Reserved (codes "if") d.2, v.2, a.2,
+      no_more, after_none row.Reserved (codes "else") rest no_more, grows {A = Stmt} _ _ _ lt) refl)
+  words_layer m le (Stmt-F.If s c x (Some y)) from rest d w =
+      let v = condition_read m le c d.0 d.1 d.5 in
+      let a = whole_stmt m x d.1 d.2 le d.6 in
+      let b = whole_stmt m y d.3 rest le d.8 in
+      let lt : max v.0 (max a.0 b.0) < 64 = omega (arith, v.1, a.1, b.1, le, small) in
+      (max v.0 (max a.0 b.0) + 1, omega (arith, v.1, a.1, b.1), rw (sees_other row.Mark (codes "{") d.4 refl, row_at row.Reserved true d.4 refl, sees_at row.Reserved (codes "if") d.4, expect_at row.Reserved (codes "if") d.4, v.2, a.2,
+      sees_at row.Reserved (codes "else") d.7.1, after_at row.Reserved (codes "else") d.7.1, b.2, grows {A = Stmt} _ _ _ lt) refl)
+  words_layer m le (Stmt-F.While s c x) from rest d w =
+      let v = condition_read m le c d.0 d.1 d.3 in
+      let a = whole_stmt m x d.1 rest le d.4 in
+      let lt : max v.0 a.0 < 64 = omega (arith, v.1, a.1, le, small) in
+      (max v.0 a.0 + 1, omega (arith, v.1, a.1), rw (sees_other row.Mark (codes "{") d.2 refl, row_at row.Reserved true d.2 refl, sees_other row.Reserved (codes "if") d.2 refl, sees_other row.Reserved (codes "break") d.2 refl,
+      sees_other row.Reserved (codes "continue") d.2 refl, sees_other row.Reserved (codes "return") d.2 refl, sees_at row.Reserved (codes "while") d.2, expect_at row.Reserved (codes "while") d.2, v.2, a.2, grows {A = Stmt} _ _ _ lt) refl)
+  words_layer m le (Stmt-F.Do s x c z) from rest d w =
+      let a = whole_stmt m x d.0 d.1 le d.5 in
+      let v = condition_read m le c d.2 d.3 d.7 in
+      let lt : max a.0 v.0 < 64 = omega (arith, v.1, a.1, le, small) in
+      (max a.0 v.0 + 1, omega (arith, v.1, a.1), rw (sees_other row.Mark (codes "{") d.4 refl, row_at row.Reserved true d.4 refl, sees_other row.Reserved (codes "if") d.4 refl, sees_other row.Reserved (codes "break") d.4 refl,
+      sees_other row.Reserved (codes "continue") d.4 refl, sees_other row.Reserved (codes "return") d.4 refl, sees_other row.Reserved (codes "while") d.4 refl, sees_at row.Reserved (codes "do") d.4, expect_at row.Reserved (codes "do") d.4, a.2,
+      expect_at row.Reserved (codes "while") d.6.1, v.2, expect_at row.Mark (codes ";") d.8, grows {A = Stmt} _ _ _ lt) refl)
+  words_layer m le _ from rest d w = absurd w
