@@ -1496,3 +1496,137 @@ module _ (sub : ℕ → Reader (Tall Expr)) (stmt : Reader (Tall Stmt)) (n : ℕ
       sees_other row.Reserved (codes "continue") d.4 refl, sees_other row.Reserved (codes "return") d.4 refl, sees_other row.Reserved (codes "while") d.4 refl, sees_at row.Reserved (codes "do") d.4, expect_at row.Reserved (codes "do") d.4, a.2,
       expect_at row.Reserved (codes "while") d.6.1, v.2, expect_at row.Mark (codes ";") d.8, grows {A = Stmt} _ _ _ lt) refl)
   words_layer m le _ from rest d w = absurd w
+
+  -- ---- declarations
+
+  no_words : (from : List Token) → sees_row row.Reserved from ≡ false → NoStatement from
+  no_words from e = (
+    no_row row.Reserved (codes "if") from e,
+    no_row row.Reserved (codes "break") from e,
+    no_row row.Reserved (codes "continue") from e,
+    no_row row.Reserved (codes "return") from e,
+    no_row row.Reserved (codes "while") from e,
+    no_row row.Reserved (codes "do") from e,
+    no_row row.Reserved (codes "for") from e,
+    no_row row.Reserved (codes "try") from e,
+  )
+
+  no_type : (from : List Token) → sees_row row.Reserved from ≡ false → sees_type from ≡ false
+  unfolding sees_type
+  no_type [] e = refl
+  no_type (t ∷ us) e = rw e refl
+
+  no_integers : (from : List Token) → sees_row row.Reserved from ≡ false → st.declares_integers from ≡ false
+  unfolding st.declares_integers
+  no_integers from e = rw (no_row row.Reserved (codes "const") from e, no_row row.Reserved (codes "constexpr") from e, no_row row.Reserved (codes "auto") from e, no_type from e) refl
+
+  type_reserved : (t : TypeSpecifier) (from rest : List Token) → TypeSpecified t from rest → sees_row row.Reserved from ≡ true
+  unfolding keyword
+  type_reserved (specifier.Auto s) from rest h = row_at row.Reserved true h refl
+  type_reserved (specifier.Integer t) from rest h = type_row from (integral_type t from rest h)
+
+  type_not : (text : List ℕ) → one_word_of text ≡ None → is_word row.Reserved text (word row.Reserved (codes "auto")) ≡ false → (t : TypeSpecifier) (from rest : List Token) → TypeSpecified t from rest → sees row.Reserved text from ≡ false
+  unfolding keyword
+  type_not text p q (specifier.Auto s) from rest h = sees_other row.Reserved text h q
+  type_not text p q (specifier.Integer t) from rest h = not_type text p from (integral_type t from rest h)
+
+  -- the specifiers of a declaration of integers: a reserved word that is none of a statement
+  specified_not : (text : List ℕ) → one_word_of text ≡ None → is_word row.Reserved text (word row.Reserved (codes "auto")) ≡ false → is_word row.Reserved text (word row.Reserved (codes "const")) ≡ false →
+      is_word row.Reserved text (word row.Reserved (codes "constexpr")) ≡ false → (c : Option ConstSpecifier) (t : TypeSpecifier) (from m k : List Token) → Optional ConstSpecified c from m → TypeSpecified t m k →
+      sees row.Reserved text from ≡ false
+  unfolding keyword
+  specified_not text p q u v None t from m k h g = rw h (type_not text p q t m k g)
+  specified_not text p q u v (Some (const.Const s)) t from m k h g = sees_other row.Reserved text h u
+  specified_not text p q u v (Some (const.Constexpr s)) t from m k h g = sees_other row.Reserved text h v
+
+  specified_row : (c : Option ConstSpecifier) (t : TypeSpecifier) (from m k : List Token) → Optional ConstSpecified c from m → TypeSpecified t m k → sees_row row.Reserved from ≡ true
+  unfolding keyword
+  specified_row None t from m k h g = rw h (type_reserved t m k g)
+  specified_row (Some (const.Const s)) t from m k h g = row_at row.Reserved true h refl
+  specified_row (Some (const.Constexpr s)) t from m k h g = row_at row.Reserved true h refl
+
+  specified_declares : (c : Option ConstSpecifier) (t : TypeSpecifier) (from m k : List Token) → Optional ConstSpecified c from m → TypeSpecified t m k → sees row.Mark (codes "(") k ≡ false → st.declares_integers from ≡ true
+  unfolding st.declares_integers keyword one_word_of keyword_of fixed_width_of
+  specified_declares None (specifier.Auto s) from m k h g e = rw (h, sees_other row.Reserved (codes "const") g refl, sees_other row.Reserved (codes "constexpr") g refl, sees_at row.Reserved (codes "auto") g) refl
+  specified_declares None (specifier.Integer t) from m k h g e =
+      let is_type = integral_type t m k g in
+      rw (h, not_type (codes "const") refl m is_type, not_type (codes "constexpr") refl m is_type, not_type (codes "auto") refl m is_type, is_type, integral_next (codes "(") t m k g e) refl
+  specified_declares (Some (const.Const s)) t from m k h g e = rw (sees_at row.Reserved (codes "const") h) refl
+  specified_declares (Some (const.Constexpr s)) t from m k h g e = rw (sees_other row.Reserved (codes "const") h refl, sees_at row.Reserved (codes "constexpr") h) refl
+
+  specified_words : (c : Option ConstSpecifier) (t : TypeSpecifier) (from m k : List Token) → Optional ConstSpecified c from m → TypeSpecified t m k → NoStatement from
+  unfolding one_word_of keyword_of fixed_width_of
+  specified_words c t from m k h g = (
+    specified_not (codes "if") refl refl refl refl c t from m k h g,
+    specified_not (codes "break") refl refl refl refl c t from m k h g,
+    specified_not (codes "continue") refl refl refl refl c t from m k h g,
+    specified_not (codes "return") refl refl refl refl c t from m k h g,
+    specified_not (codes "while") refl refl refl refl c t from m k h g,
+    specified_not (codes "do") refl refl refl refl c t from m k h g,
+    specified_not (codes "for") refl refl refl refl c t from m k h g,
+    specified_not (codes "try") refl refl refl refl c t from m k h g,
+  )
+
+  -- read as a simple statement, and only so
+  abbrev SimpleAs : ℕ → Stmt → List Token → List Token → Type 0
+  SimpleAs m x from rest = ReadsAs (st.simple sub stmt from) m x rest × (st.one_stmt sub stmt from ≡ st.simple sub stmt from)
+
+  by_row : (from : List Token) → sees_row row.Ident from ≡ true → st.sees_print from ≡ false → st.one_stmt sub stmt from ≡ st.simple sub stmt from
+  by_row from i p = to_simple from (no_row row.Mark (codes "{") from (other_row row.Ident row.Mark from i refl)) (no_words from (other_row row.Ident row.Reserved from i refl)) p
+
+  std_no_print : (w : String) → bytes_eq (codes w) (codes "cout") ≡ false → (q : Qualified) (from m : List Token) → Std w q from m → st.sees_print from ≡ false
+  unfolding st.sees_print mark identifier
+  std_no_print w e q from m h = rw (next_at h.2, next_at h.3.1, sees_other row.Ident (codes "cout") h.4 e) (and_no (sees_namespace (codes "std") from))
+
+  std_simple : (w : String) (q : Qualified) (from m : List Token) → Std w q from m → st.simple sub stmt from ≡ st.declared sub stmt (st.standard_declaration sub stmt) from
+  unfolding st.simple mark identifier
+  std_simple w q from m h = rw (sees_other row.Mark (codes ";") h.2 refl, no_integers from (row_at row.Reserved false h.2 refl), namespace_at (codes "std") h.2 h.3.1) refl
+
+  std_named : (w : String) (q : Qualified) (from m : List Token) → Std w q from m → named (codes "std") from ≡ Some ((q.namespace, record { spot = q.name; text = codes w }), m)
+  unfolding identifier mark
+  std_named w q from m h = named_at (codes "std") (codes w) q from h.0 h.1 m h.2 h.3 h.4
+
+  declaration_layer : (m : ℕ) → m ≤ n → (y : DeclarationLayer) (from rest : List Token) → DeclarationRule (Derives m) y from rest → SimpleAs (suc m) (ts.Declaration (declaration_made y)) from rest
+  unfolding st.simple st.integers st.standard_declaration st.vector st.integer_vector st.device_vector st.thread_vector st.thread st.library_statement st.object_declaration declares_object sees_namespace st.sees_print one_word_of keyword_of fixed_width_of mark identifier
+  declaration_layer m le (Declaration-F.Integers c t ds e) from rest d =
+      let ident = declarators_first m ds d.1 d.2 d.5 in
+      let reserved = specified_row c t from d.0 d.1 d.3 d.4 in
+      let no_mark = other_row row.Reserved row.Mark from reserved refl in
+      let no_ident = other_row row.Reserved row.Ident from reserved refl in
+      let all = all_listed_read (st.one_declarator sub stmt) (OneDeclarator (Derives m)) m Closed (declarator_short m) (declarator_read m le) comma_closed ds d.1 d.2 (omega (arith, at_length d.6)) d.5 (semicolon_closed d.6) (sees_other row.Mark (codes ",") d.6 refl) in
+      let lt : all.0 < 64 = omega (arith, all.1, le, small) in
+      let const_no = type_not (codes "const") refl refl t d.0 d.1 d.4 in
+      let constexpr_no = type_not (codes "constexpr") refl refl t d.0 d.1 d.4 in
+      ((all.0 + 1, omega (arith, all.1), rw (no_row row.Mark (codes ";") from no_mark, specified_declares c t from d.0 d.1 d.3 d.4 (no_row row.Mark (codes "(") d.1 (other_row row.Ident row.Mark d.1 ident refl)),
+      const_specifier_read c from d.0 const_no constexpr_no d.3, type_specifier_read t d.0 d.1 (other_row row.Ident row.Reserved d.1 ident refl) d.4, all.2, expect_at row.Mark (codes ";") d.6, grows {A = Stmt} _ _ _ lt) refl),
+      to_simple from (no_row row.Mark (codes "{") from no_mark) (specified_words c t from d.0 d.1 d.3 d.4) (rw (no_row row.Ident (codes "std") from no_ident) refl))
+  declaration_layer m le (Declaration-F.Vector q t x v e) from rest d =
+      let i = initializer_read m le v d.1 d.2 d.5 (semicolon_closed d.6) in
+      let lt : i.0 < 64 = omega (arith, i.1, le, small) in
+      let ident = other_row row.Reserved row.Ident d.3.1 (type_row d.3.1 (integral_type t d.3.1 d.3.2 d.3.5)) refl in
+      ((i.0 + 1, omega (arith, i.1), std_simple "vector" q from d.3.0 d.3.3 ∙ rw (std_named "vector" q from d.3.0 d.3.3, expect_at row.Mark (codes "<") d.3.4.1, no_row row.Ident (codes "std") d.3.1 ident, no_row row.Ident (codes "sycl") d.3.1 ident,
+      integral_read t d.3.1 d.3.2 (row_at row.Reserved false d.3.6.1 refl) d.3.5, expect_at row.Mark (codes ">") d.3.6.1, lexed_at row.Ident x d.4, i.2, expect_at row.Mark (codes ";") d.6, grows {A = Stmt} _ _ _ lt) refl),
+      by_row from (row_at row.Ident true d.3.3.2 refl) (std_no_print "vector" refl q from d.3.0 d.3.3))
+  declaration_layer m le (Declaration-F.DeviceVector q x v e) from rest d =
+      let i = initializer_read m le v d.4 d.5 d.12 (semicolon_closed d.13) in
+      let lt : i.0 < 64 = omega (arith, i.1, le, small) in
+      ((i.0 + 1, omega (arith, i.1), std_simple "vector" q from d.0 d.7 ∙ rw (std_named "vector" q from d.0 d.7, expect_at row.Mark (codes "<") d.8.1, sees_other row.Ident (codes "std") d.9.2 refl, sees_at row.Ident (codes "sycl") d.9.2,
+      next_at d.9.2, sees_at row.Mark (codes "::") d.9.3.1, within_at (codes "sycl") (codes "device") d.6 d.1 d.9.0 d.9.1 d.2 d.9.2 d.9.3 d.9.4, expect_at row.Mark (codes ">") d.10.1, lexed_at row.Ident x d.11, i.2, expect_at row.Mark (codes ";") d.13, grows {A = Stmt} _ _ _ lt) refl),
+      by_row from (row_at row.Ident true d.7.2 refl) (std_no_print "vector" refl q from d.0 d.7))
+  declaration_layer m le (Declaration-F.ThreadVector q x e) from rest d =
+      ((1, omega arith, std_simple "vector" q from d.0 d.6 ∙ rw (std_named "vector" q from d.0 d.6, expect_at row.Mark (codes "<") d.7.1, sees_at row.Ident (codes "std") d.8.2,
+      next_at d.8.2, sees_at row.Mark (codes "::") d.8.3.1, within_at (codes "std") (codes "thread") d.5 d.1 d.8.0 d.8.1 d.2 d.8.2 d.8.3 d.8.4, expect_at row.Mark (codes ">") d.9.1, lexed_at row.Ident x d.10, expect_at row.Mark (codes ";") d.11) refl),
+      by_row from (row_at row.Ident true d.6.2 refl) (std_no_print "vector" refl q from d.0 d.6))
+  declaration_layer m le (Declaration-F.Thread q x b l e) from rest d =
+      let i = lambda_read sub stmt n small whole_stmt m (omega arith) l d.2 d.3 d.8 in
+      let lt : i.0 < 64 = omega (arith, i.1, le, small) in
+      ((i.0 + 1, omega (arith, i.1), std_simple "thread" q from d.0 d.5 ∙ rw (std_named "thread" q from d.0 d.5, lexed_at row.Ident x d.6, opened_read b d.7.0 d.1 d.2 d.7.1, i.2, closed_read b d.9.0 d.3 d.4 d.9.1,
+      expect_at row.Mark (codes ";") d.10, grows {A = Stmt} _ _ _ lt) refl),
+      by_row from (row_at row.Ident true d.5.2 refl) (std_no_print "thread" refl q from d.0 d.5))
+  declaration_layer m le (Declaration-F.Object t x v e) from rest d =
+      let i = initializer_read m le v d.1 d.2 d.5 (semicolon_closed d.6) in
+      let lt : i.0 < 64 = omega (arith, i.1, le, small) in
+      let at = object_at t from d.0 d.3 in
+      ((i.0 + 1, omega (arith, i.1), rw (sees_other row.Mark (codes ";") at.3 refl, no_integers from (row_at row.Reserved false at.3 refl), sees_other row.Ident (codes "std") at.3 refl, sees_at row.Ident (codes "sycl") at.3, next_at at.3, sees_at row.Mark (codes "::") at.4.1,
+      object_read t from d.0 (sees_other row.Mark (codes "<") d.4 refl) d.3, row_at row.Ident true d.4 refl, lexed_at row.Ident x d.4, i.2, expect_at row.Mark (codes ";") d.6, grows {A = Stmt} _ _ _ lt) refl),
+      by_row from (row_at row.Ident true at.3 refl) (rw (sees_other row.Ident (codes "std") at.3 refl) refl))
