@@ -1630,3 +1630,121 @@ module _ (sub : ℕ → Reader (Tall Expr)) (stmt : Reader (Tall Stmt)) (n : ℕ
       ((i.0 + 1, omega (arith, i.1), rw (sees_other row.Mark (codes ";") at.3 refl, no_integers from (row_at row.Reserved false at.3 refl), sees_other row.Ident (codes "std") at.3 refl, sees_at row.Ident (codes "sycl") at.3, next_at at.3, sees_at row.Mark (codes "::") at.4.1,
       object_read t from d.0 (sees_other row.Mark (codes "<") d.4 refl) d.3, row_at row.Ident true d.4 refl, lexed_at row.Ident x d.4, i.2, expect_at row.Mark (codes ";") d.6, grows {A = Stmt} _ _ _ lt) refl),
       by_row from (row_at row.Ident true at.3 refl) (rw (sees_other row.Ident (codes "std") at.3 refl) refl))
+
+  -- ---- simple statements, of which one stands in the header of a for loop
+
+  simple_layer : (m : ℕ) → m ≤ n → (y : StmtLayer) (from rest : List Token) → IsInitStatement y → StmtRule (Derives m) y from rest → SimpleAs (suc m) (stmt_made y) from rest
+  unfolding st.simple st.null st.expression st.sees_print sees_namespace mark
+  simple_layer m le (Stmt-F.Null s) from rest w d =
+      ((1, omega arith, rw (sees_at row.Mark (codes ";") d, expect_at row.Mark (codes ";") d) refl),
+      to_simple from (sees_other row.Mark (codes "{") d refl) (no_words from (row_at row.Reserved false d refl)) (rw (sees_other row.Ident (codes "std") d refl) refl))
+  simple_layer m le (Stmt-F.Declaration y) from rest w d =
+      subst (λ z. SimpleAs (suc m) (ts.Declaration z) from rest) (declaration_made_out y) (declaration_layer m le (out-Declaration y) from rest d)
+  simple_layer m le (Stmt-F.Expression x e) from rest w d =
+      let v = full_parts_read m le x from d.0 d.1 (semicolon_full d.2) in
+      let b = full_begins m (out-FullExpression x) from d.0 d.1 (semicolon_full d.2) in
+      let lt : v.0 < 64 = omega (arith, v.1, le, small) in
+      let one = expression_simple m b.0 from b.1 b.2 b.3 in
+      ((v.0 + 1, omega (arith, v.1), one ∙ rw (v.2, expect_at row.Mark (codes ";") d.2, grows {A = Stmt} _ _ _ lt) refl), expression_stmt m b.0 from b.1 b.2 b.3 ∙ sym one)
+  simple_layer m le _ from rest w d = absurd w
+
+  -- ---- what is printed
+
+  no_string : (from : List Token) → first opens_expr from ≡ true → sees_row row.Str from ≡ false
+  unfolding sees_row
+  no_string [] h = refl
+  no_string (t ∷ us) h = by (same_row t.word.row row.Str) refl
+    where
+      by : (b : Bool) → same_row t.word.row row.Str ≡ b → b ≡ false
+      by false is = refl
+      by true is = let clash : true ≡ false = sym h ∙ ap (λ w. opens_expr (word w t.word.text)) (same_row_is t.word.row row.Str is) in absurd cc
+
+  printed_layer : (m : ℕ) → m ≤ n → (y : PrintedLayer) (from rest : List Token) → PrintedRule (Derives m) y from rest → r.binds rest < 10 → ReadsAs (st.one_printed sub stmt from) m (printed_made y) rest
+  unfolding st.one_printed sees_namespace mark identifier
+  printed_layer m le (Printed-F.Operand s x) from rest d lt =
+      let v = whole m 10 x d.0 rest le (omega arith) d.2 lt in
+      let declares = no_declaration m 10 x d.0 rest d.2 (binds_no (codes "::") colons_binds rest (omega (arith, lt))) in
+      (v.0, v.1, rw (expect_at row.Mark (codes "<<") d.1, no_string d.0 (Derives-begins m (an_expr 10 x) d.0 rest d.2), declares.0, v.2) refl)
+  printed_layer m le (Printed-F.Text s x) from rest d lt = (0, omega arith, rw (expect_at row.Mark (codes "<<") d.1, row_at row.Str true d.2 refl, lexed_at row.Str x d.2) refl)
+  printed_layer m le (Printed-F.EndLine s q) from rest d lt =
+      (0, omega arith, rw (expect_at row.Mark (codes "<<") d.1, row_at row.Str false d.2.2 refl, sees_at row.Ident (codes "std") d.2.2, next_at d.2.2, sees_at row.Mark (codes "::") d.2.3.1,
+      within_at (codes "std") (codes "endl") q d.0 d.2.0 d.2.1 rest d.2.2 d.2.3 d.2.4) refl)
+
+  printed_read : (m : ℕ) → m ≤ n → (x : Printed) (from rest : List Token) → OnePrinted (Derives m) x from rest → r.binds rest < 10 → ReadsAs (st.one_printed sub stmt from) m x rest
+  printed_read m le x from rest d lt = subst (λ z. ReadsAs (st.one_printed sub stmt from) m z rest) (printed_made_out x) (printed_layer m le (out-Printed x) from rest d lt)
+
+  printed_first : (m : ℕ) (x : Printed) (from rest : List Token) → OnePrinted (Derives m) x from rest → (s : Spot) × (k : List Token) × At (mark "<<") s from k × (length rest ≤ length k)
+  printed_first m x from rest d = by (out-Printed x) d
+    where
+      by : (y : PrintedLayer) → PrintedRule (Derives m) y from rest → (s : Spot) × (k : List Token) × At (mark "<<") s from k × (length rest ≤ length k)
+      by (Printed-F.Operand s x) d = (s, d.0, d.1, passed (Derives-takes m (an_expr 10 x) d.0 rest d.2))
+      by (Printed-F.Text s x) d = (s, d.0, d.1, omega (arith, at_length d.2))
+      by (Printed-F.EndLine s q) d = (s, d.0, d.1, omega (arith, at_length d.2.2, at_length d.2.3.1, at_length d.2.4))
+
+  shift_binds : {s : Spot} {us vs : List Token} → At (mark "<<") s us vs → r.binds us < 10
+  unfolding mark r.binds_by operator_of arithmetic_of comparison_of bitwise_of logical_of
+  shift_binds h = let b : r.binds _ ≡ 9 = binds_at (codes "<<") h in omega (arith, b)
+
+  all_printed_read : (m : ℕ) → m ≤ n → (t h : ℕ) (xs : List Printed) (x : Printed) (more : List Printed) {s : Spot} (from mid rest : List Token) → h ≤ m → length from ≤ t → Each (OnePrinted (Derives m)) (x ∷ more) from mid → At (mark ";") s mid rest →
+      ReadsAs (st.printed sub stmt t xs h from) m (xs ++ (x ∷ more)) mid
+  unfolding st.printed mark
+  all_printed_read m le zero h xs x more from mid rest lh lt d c = let f = printed_first m x from d.0 d.1 in absurd (omega (arith, lt, at_length f.2))
+  all_printed_read m le (suc t) h xs x [] from mid rest lh lt d c =
+      let there = subst (λ us. OnePrinted (Derives m) x from us) d.2 d.1 in
+      let v = printed_read m le x from mid there (omega (arith, semicolon_ends c)) in
+      (max h v.0, omega (arith, lh, v.1), rw (v.2, sees_other row.Mark (codes "<<") c refl) refl)
+  all_printed_read m le (suc t) h xs x (y ∷ more) from mid rest lh lt d c =
+      let g = printed_first m y d.0 d.2.0 d.2.1 in
+      let f = printed_first m x from d.0 d.1 in
+      let v = printed_read m le x from d.0 d.1 (shift_binds g.2) in
+      let others = all_printed_read m le t (max h v.0) (xs ++ x ∷ []) y more d.0 mid rest (omega (arith, lh, v.1)) (omega (arith, lt, at_length f.2, f.3)) d.2 c in
+      (others.0, others.1, rw (v.2, sees_at row.Mark (codes "<<") g.2, others.2, append_assoc xs (x ∷ []) (y ∷ more)) refl)
+
+  -- ---- the header of a range for
+
+  reference_no_word : (b : Bool) (j p u : List Token) {s : Spot} {w : List ℕ} → Maybe (mark "&") b j p → At (word row.Ident w) s p u → NoWord j
+  unfolding mark
+  reference_no_word true j p u c d = row_at row.Reserved false c.1 refl
+  reference_no_word false j p u c d = rw c (row_at row.Reserved false d refl)
+
+  header_read : (fixed : Bool) (t : TypeSpecifier) (by_reference : Bool) (name : Lexeme) (k i j p u v : List Token) → Maybe (keyword "const") fixed k i → TypeSpecified t i j → Maybe (mark "&") by_reference j p → Lexed row.Ident name p u →
+      Sees (mark ":") u v → st.range_header k ≡ Some (((fixed, t), (by_reference, name)), v)
+  unfolding st.range_header mark keyword one_word_of keyword_of fixed_width_of
+  header_read fixed t by_reference name k i j p u v a b c d e =
+      let const_no = type_not (codes "const") refl refl t i j b in
+      let no_and = sees_other row.Mark (codes "&") d refl in
+      rw (maybe_sees row.Reserved (codes "const") fixed k i a const_no, maybe_after row.Reserved (codes "const") fixed k i a const_no, type_specifier_read t i j (reference_no_word by_reference j p u c d) b,
+      maybe_sees row.Mark (codes "&") by_reference j p c no_and, maybe_after row.Mark (codes "&") by_reference j p c no_and, lexed_at row.Ident name d, expect_at row.Mark (codes ":") e.1) refl
+
+  -- ---- statements
+
+  abbrev IsOther : StmtLayer → Type 0
+  IsOther (Stmt-F.Print q xs c) = Unit
+  IsOther (Stmt-F.Try s b name c) = Unit
+  IsOther (Stmt-F.RangeFor s fixed t by_reference name range x) = Unit
+  IsOther _ = ⊥
+
+  other_layer : (m : ℕ) → m ≤ n → (y : StmtLayer) (from rest : List Token) → StmtRule (Derives m) y from rest → IsOther y → StmtAs m y from rest
+  unfolding st.one_stmt st.reserved st.repeated st.print st.sees_print sees_namespace st.try_block st.handler st.for_loop st.maybe_range_header st.range_for mark keyword identifier
+  other_layer m le (Stmt-F.Print q [] c) from rest d w = absurd d.3
+  other_layer m le (Stmt-F.Print q (x ∷ xs) c) from rest d w =
+      let v = all_printed_read m le (length d.0) 0 [] x xs d.0 d.1 rest (omega arith) (omega arith) d.3 d.4 in
+      let lt : v.0 < 64 = omega (arith, v.1, le, small) in
+      (v.0 + 1, omega (arith, v.1), rw (sees_other row.Mark (codes "{") d.2.2 refl, row_at row.Reserved false d.2.2 refl, sees_at row.Ident (codes "std") d.2.2, next_at d.2.2, sees_at row.Mark (codes "::") d.2.3.1, next_at d.2.3.1,
+      sees_at row.Ident (codes "cout") d.2.4, within_at (codes "std") (codes "cout") q from d.2.0 d.2.1 d.0 d.2.2 d.2.3 d.2.4, v.2, expect_at row.Mark (codes ";") d.4, grows {A = Stmt} _ _ _ lt) refl)
+  other_layer m le (Stmt-F.Try s b name c) from rest d w =
+      let v = block_read sub stmt n small whole_stmt m (omega arith) b d.0 d.1 d.10 in
+      let z = block_read sub stmt n small whole_stmt m (omega arith) c d.7 rest d.16.3 in
+      let lt : max v.0 z.0 < 64 = omega (arith, v.1, z.1, le, small) in
+      (max v.0 z.0 + 1, omega (arith, v.1, z.1), rw (sees_other row.Mark (codes "{") d.9 refl, row_at row.Reserved true d.9 refl, sees_other row.Reserved (codes "if") d.9 refl, sees_other row.Reserved (codes "break") d.9 refl,
+      sees_other row.Reserved (codes "continue") d.9 refl, sees_other row.Reserved (codes "return") d.9 refl, sees_other row.Reserved (codes "while") d.9 refl, sees_other row.Reserved (codes "do") d.9 refl, sees_other row.Reserved (codes "for") d.9 refl,
+      sees_at row.Reserved (codes "try") d.9, expect_at row.Reserved (codes "try") d.9, v.2, expect_at row.Reserved (codes "catch") d.11.1, expect_at row.Mark (codes "(") d.12.1, expect_at row.Reserved (codes "const") d.13.1,
+      within_at (codes "sycl") (codes "exception") d.8 d.4 d.14.0 d.14.1 d.5 d.14.2 d.14.3 d.14.4, expect_at row.Mark (codes "&") d.15.1, lexed_at row.Ident name d.16.1, expect_at row.Mark (codes ")") d.16.2.1, z.2, grows {A = Stmt} _ _ _ lt) refl)
+  other_layer m le (Stmt-F.RangeFor s fixed t by_reference name range x) from rest d w =
+      let a = whole_stmt m x d.7 rest le d.15.3 in
+      let lt : a.0 < 64 = omega (arith, a.1, le, small) in
+      (a.0 + 1, omega (arith, a.1), rw (sees_other row.Mark (codes "{") d.8 refl, row_at row.Reserved true d.8 refl, sees_other row.Reserved (codes "if") d.8 refl, sees_other row.Reserved (codes "break") d.8 refl,
+      sees_other row.Reserved (codes "continue") d.8 refl, sees_other row.Reserved (codes "return") d.8 refl, sees_other row.Reserved (codes "while") d.8 refl, sees_other row.Reserved (codes "do") d.8 refl, sees_at row.Reserved (codes "for") d.8,
+      expect_at row.Reserved (codes "for") d.8, expect_at row.Mark (codes "(") d.9.1, header_read fixed t by_reference name d.1 d.2 d.3 d.4 d.5 d.6 d.10 d.11 d.12 d.13 d.14, lexed_at row.Ident range d.15.1, expect_at row.Mark (codes ")") d.15.2.1, a.2,
+      grows {A = Stmt} _ _ _ lt) refl)
+  other_layer m le _ from rest d w = absurd w
