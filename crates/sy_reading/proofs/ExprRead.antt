@@ -97,6 +97,7 @@ use Rattle.sy_tree.specs.Words.{Std, assignment_spelling}
 use Rattle.sy_reading.proofs.ReadSteps.{after_none, after_at, named_at, within_at, maybe_sees, maybe_after}
 use Rattle.sy_reading.proofs.PartsRead.{NoWord, type_specifier_read, const_specifier_read, object_read}
 use Rattle.sy_reading.specs.Input.{within}
+use Rattle.sy_reading.proofs.PartsSound.{integral_is}
 
 -- ---- trees from their layers
 
@@ -1748,3 +1749,128 @@ module _ (sub : ℕ → Reader (Tall Expr)) (stmt : Reader (Tall Stmt)) (n : ℕ
       expect_at row.Reserved (codes "for") d.8, expect_at row.Mark (codes "(") d.9.1, header_read fixed t by_reference name d.1 d.2 d.3 d.4 d.5 d.6 d.10 d.11 d.12 d.13 d.14, lexed_at row.Ident range d.15.1, expect_at row.Mark (codes ")") d.15.2.1, a.2,
       grows {A = Stmt} _ _ _ lt) refl)
   other_layer m le _ from rest d w = absurd w
+
+  -- ---- the header of a plain for is none of a range for
+
+  lexed_none : (r : Row) (us : List Token) → sees_row r us ≡ false → lexed r us ≡ None
+  unfolding sees_row lexed
+  lexed_none r [] e = refl
+  lexed_none r (t ∷ us) e = rw e refl
+
+  expect_none : (r : Row) (text : List ℕ) (us : List Token) → sees r text us ≡ false → expect r text us ≡ None
+  unfolding sees expect
+  expect_none r text [] e = refl
+  expect_none r text (t ∷ us) e = rw e refl
+
+  header_bare : (from : List Token) → bare_type from ≡ false → sees row.Reserved (codes "const") from ≡ false → sees row.Reserved (codes "auto") from ≡ false → st.range_header from ≡ None
+  unfolding st.range_header type_specifier
+  header_bare from e c a = by (integral from) refl
+    where
+      opened_there : (t : IntegerType) (us : List Token) → integral from ≡ Some (t, us) → (b : Bool) → sees row.Mark (codes "(") us ≡ b → sees row.Mark (codes "(") us ≡ true
+      opened_there t us is true o = o
+      opened_there t us is false o =
+          let there = integral_is from us t is in
+          let whole_type : bare_type from ≡ true = rw (integral_type t from us there, integral_next (codes "(") t from us there o) refl in
+          let clash : true ≡ false = sym whole_type ∙ e in
+          absurd cc
+
+      by : (o : Option (IntegerType × List Token)) → integral from ≡ o → st.range_header from ≡ None
+      by None is = rw (c, after_none row.Reserved (codes "const") from c, a, is) refl
+      by (Some p) is =
+          let paren = seen row.Mark (codes "(") p.1 (opened_there p.0 p.1 is (sees row.Mark (codes "(") p.1) refl) in
+          rw (c, after_none row.Reserved (codes "const") from c, a, is, after_none row.Mark (codes "&") p.1 (sees_other row.Mark (codes "&") paren.1 refl), lexed_none row.Ident p.1 (row_at row.Ident false paren.1 refl)) refl
+
+  header_row : (from : List Token) → sees_row row.Reserved from ≡ false → st.range_header from ≡ None
+  header_row from e = header_bare from (rw (no_type from e) refl) (no_row row.Reserved (codes "const") from e) (no_row row.Reserved (codes "auto") from e)
+
+  declarator_name : (m : ℕ) (y : DeclaratorLayer) (from rest : List Token) → DeclaratorRule (Derives m) y from rest → sees row.Mark (codes ":") rest ≡ false → (x : Lexeme) × (us : List Token) × Lexed row.Ident x from us × (sees row.Mark (codes ":") us ≡ false)
+  unfolding mark
+  declarator_name m (Declarator-F.Uninitialized x) from rest d e = (x, rest, d, e)
+  declarator_name m (Declarator-F.Equal x s v) from rest d e = (x, d.0, d.2, sees_other row.Mark (codes ":") d.3 refl)
+  declarator_name m (Declarator-F.Bracketed x brackets.Parentheses s v c) from rest d e = (x, d.0, d.3, sees_other row.Mark (codes ":") d.4 refl)
+  declarator_name m (Declarator-F.Bracketed x brackets.Braces s v c) from rest d e = (x, d.0, d.3, sees_other row.Mark (codes ":") d.4 refl)
+
+  declarators_name : (m : ℕ) (xs : List Declarator) (from rest : List Token) → Listed (OneDeclarator (Derives m)) xs from rest → sees row.Mark (codes ":") rest ≡ false → (x : Lexeme) × (us : List Token) × Lexed row.Ident x from us × (sees row.Mark (codes ":") us ≡ false)
+  unfolding mark
+  declarators_name m [] from rest d e = absurd d
+  declarators_name m (x ∷ []) from rest d e = declarator_name m (out-Declarator x) from rest d e
+  declarators_name m (x ∷ y ∷ more) from rest d e = declarator_name m (out-Declarator x) from d.0 d.2 (sees_other row.Mark (codes ":") d.3.1 refl)
+
+  header_typed : (fixed : Bool) (t : TypeSpecifier) (x : Lexeme) (from m k us : List Token) → Maybe (keyword "const") fixed from m → TypeSpecified t m k → Lexed row.Ident x k us → sees row.Mark (codes ":") us ≡ false → st.range_header from ≡ None
+  unfolding st.range_header keyword one_word_of keyword_of fixed_width_of
+  header_typed fixed t x from m k us a b c e =
+      let const_no = type_not (codes "const") refl refl t m k b in
+      rw (maybe_after row.Reserved (codes "const") fixed from m a const_no, type_specifier_read t m k (row_at row.Reserved false c refl) b, after_none row.Mark (codes "&") k (sees_other row.Mark (codes "&") c refl),
+      lexed_at row.Ident x c, expect_none row.Mark (codes ":") us e) refl
+
+  header_declared : (m : ℕ) (y : DeclarationLayer) (from rest : List Token) → DeclarationRule (Derives m) y from rest → st.range_header from ≡ None
+  unfolding mark keyword identifier one_word_of keyword_of fixed_width_of
+  header_declared m (Declaration-F.Integers None t ds e) from rest d =
+      let x = declarators_name m ds d.1 d.2 d.5 (sees_other row.Mark (codes ":") d.6 refl) in header_typed false t x.0 from d.0 d.1 x.1 d.3 d.4 x.2 x.3
+  header_declared m (Declaration-F.Integers (Some (const.Const s)) t ds e) from rest d =
+      let x = declarators_name m ds d.1 d.2 d.5 (sees_other row.Mark (codes ":") d.6 refl) in header_typed true t x.0 from d.0 d.1 x.1 (s, d.3) d.4 x.2 x.3
+  header_declared m (Declaration-F.Integers (Some (const.Constexpr s)) t ds e) from rest d =
+      header_bare from (no_type_at d.3 refl) (sees_other row.Reserved (codes "const") d.3 refl) (sees_other row.Reserved (codes "auto") d.3 refl)
+  header_declared m (Declaration-F.Vector q t x v e) from rest d = header_row from (row_at row.Reserved false d.3.3.2 refl)
+  header_declared m (Declaration-F.DeviceVector q x v e) from rest d = header_row from (row_at row.Reserved false d.7.2 refl)
+  header_declared m (Declaration-F.ThreadVector q x e) from rest d = header_row from (row_at row.Reserved false d.6.2 refl)
+  header_declared m (Declaration-F.Thread q x b l e) from rest d = header_row from (row_at row.Reserved false d.5.2 refl)
+  header_declared m (Declaration-F.Object t x v e) from rest d = header_row from (row_at row.Reserved false (object_at t from d.0 d.3).3 refl)
+
+  header_none : (m : ℕ) (y : StmtLayer) (from rest : List Token) → IsInitStatement y → StmtRule (Derives m) y from rest → st.range_header from ≡ None
+  unfolding mark
+  header_none m (Stmt-F.Null s) from rest w d = header_row from (row_at row.Reserved false d refl)
+  header_none m (Stmt-F.Declaration y) from rest w d = header_declared m (out-Declaration y) from rest d
+  header_none m (Stmt-F.Expression x e) from rest w d =
+      let b = full_begins m (out-FullExpression x) from d.0 d.1 (semicolon_full d.2) in
+      let begins = Derives-begins m (an_expr 1 b.0) from b.1 b.2 in
+      header_bare from (typed_call m 1 b.0 from b.1 b.2) (begins_no opens_expr row.Reserved (codes "const") refl from begins) (begins_no opens_expr row.Reserved (codes "auto") refl from begins)
+  header_none m _ from rest w d = absurd w
+
+  init_read : (m : ℕ) → m ≤ n → (x : Stmt) (from rest : List Token) → InitStatement (Derives m) x from rest → (st.range_header from ≡ None) × ReadsAs (st.simple sub stmt from) m x rest
+  unfolding Derives
+  init_read zero le x from rest d = absurd d.1
+  init_read (suc m) le x from rest d =
+      let low : m ≤ n = omega arith in
+      (header_none m (out-Stmt x) from rest d.0 d.1, subst (λ z. ReadsAs (st.simple sub stmt from) (suc m) z rest) (stmt_made_out x) (simple_layer m low (out-Stmt x) from rest d.0 d.1).0)
+
+  for_read : (m : ℕ) → m ≤ n → (s : Spot) (a : Stmt) (c : Option Expr) (b : Option FullExpression) (x : Stmt) (from rest : List Token) → StmtRule (Derives m) (Stmt-F.For s a c b x) from rest → StmtAs m (Stmt-F.For s a c b x) from rest
+  unfolding st.one_stmt st.reserved st.repeated st.for_loop st.maybe_range_header st.plain_for mark keyword
+  for_read m le s a c b x from rest d =
+      let i = init_read m le a d.1 d.2 d.9 in
+      let v = maybe_expr_read m le c d.2 d.3 d.4 d.10 d.11.1 in
+      let f = maybe_full_read m le b d.4 d.5 d.6 d.12 d.13.1 in
+      let z = whole_stmt m x d.6 rest le d.14 in
+      let lt : max (max i.1.0 v.0) (max f.0 z.0) < 64 = omega (arith, i.1.1, v.1, f.1, z.1, le, small) in
+      (max (max i.1.0 v.0) (max f.0 z.0) + 1, omega (arith, i.1.1, v.1, f.1, z.1), rw (sees_other row.Mark (codes "{") d.7 refl, row_at row.Reserved true d.7 refl, sees_other row.Reserved (codes "if") d.7 refl, sees_other row.Reserved (codes "break") d.7 refl,
+      sees_other row.Reserved (codes "continue") d.7 refl, sees_other row.Reserved (codes "return") d.7 refl, sees_other row.Reserved (codes "while") d.7 refl, sees_other row.Reserved (codes "do") d.7 refl, sees_at row.Reserved (codes "for") d.7,
+      expect_at row.Reserved (codes "for") d.7, expect_at row.Mark (codes "(") d.8.1, i.0, i.1.2, v.2, expect_at row.Mark (codes ";") d.11.1, f.2, expect_at row.Mark (codes ")") d.13.1, z.2, grows {A = Stmt} _ _ _ lt) refl)
+
+  compound_read : (m : ℕ) → m ≤ n → (b : Block) (from rest : List Token) → StmtRule (Derives m) (Stmt-F.Compound b) from rest → StmtAs m (Stmt-F.Compound b) from rest
+  unfolding st.one_stmt st.compound Derives mark
+  compound_read m le b from rest d =
+      let v = block_read sub stmt n small whole_stmt (suc m) (omega arith) b from rest d in
+      (v.0, v.1, rw (sees_at row.Mark (codes "{") d.2, v.2) refl)
+
+  stmt_layer : (m : ℕ) → m ≤ n → (y : StmtLayer) (from rest : List Token) → StmtRule (Derives m) y from rest → StmtAs m y from rest
+  stmt_layer m le (Stmt-F.Compound b) from rest d = compound_read m le b from rest d
+  stmt_layer m le (Stmt-F.Null s) from rest d = let v = simple_layer m le (Stmt-F.Null s) from rest tt d in (v.0.0, v.0.1, v.1 ∙ v.0.2)
+  stmt_layer m le (Stmt-F.Declaration y) from rest d = let v = simple_layer m le (Stmt-F.Declaration y) from rest tt d in (v.0.0, v.0.1, v.1 ∙ v.0.2)
+  stmt_layer m le (Stmt-F.Expression x c) from rest d = let v = simple_layer m le (Stmt-F.Expression x c) from rest tt d in (v.0.0, v.0.1, v.1 ∙ v.0.2)
+  stmt_layer m le (Stmt-F.Print q xs c) from rest d = other_layer m le (Stmt-F.Print q xs c) from rest d tt
+  stmt_layer m le (Stmt-F.Break s c) from rest d = words_layer m le (Stmt-F.Break s c) from rest d tt
+  stmt_layer m le (Stmt-F.Continue s c) from rest d = words_layer m le (Stmt-F.Continue s c) from rest d tt
+  stmt_layer m le (Stmt-F.Return s x c) from rest d = words_layer m le (Stmt-F.Return s x c) from rest d tt
+  stmt_layer m le (Stmt-F.If s c x y) from rest d = words_layer m le (Stmt-F.If s c x y) from rest d tt
+  stmt_layer m le (Stmt-F.While s c x) from rest d = words_layer m le (Stmt-F.While s c x) from rest d tt
+  stmt_layer m le (Stmt-F.Do s x c z) from rest d = words_layer m le (Stmt-F.Do s x c z) from rest d tt
+  stmt_layer m le (Stmt-F.For s a c b x) from rest d = for_read m le s a c b x from rest d
+  stmt_layer m le (Stmt-F.RangeFor s fixed t by_reference name range x) from rest d = other_layer m le (Stmt-F.RangeFor s fixed t by_reference name range x) from rest d tt
+  stmt_layer m le (Stmt-F.Try s b name c) from rest d = other_layer m le (Stmt-F.Try s b name c) from rest d tt
+
+  pub stmt_read : (m : ℕ) → m ≤ suc n → (x : Stmt) (from rest : List Token) → Derives m (a_stmt x) from rest → ReadsAs (st.one_stmt sub stmt from) m x rest
+  unfolding Derives
+  stmt_read zero le x from rest d = absurd d
+  stmt_read (suc m) le x from rest d =
+      let low : m ≤ n = omega arith in
+      subst (λ z. ReadsAs (st.one_stmt sub stmt from) (suc m) z rest) (stmt_made_out x) (stmt_layer m low (out-Stmt x) from rest d)

@@ -1,4 +1,5 @@
 pub mod Answer
+pub mod Complete
 pub mod ExprRead
 pub mod ExprSound
 pub mod PartsRead
