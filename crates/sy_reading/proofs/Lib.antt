@@ -5,6 +5,7 @@ pub mod ExprSound
 pub mod PartsRead
 pub mod PartsSound
 pub mod ReadSteps
+pub mod Runs
 pub mod Sound
 pub mod Steps
 pub mod StmtSound

@@ -2,7 +2,7 @@
 //! lists of tokens (in specs/), and the laws that tie them to the grammar.
 #![tactic(auto)]
 
-ghost use Rattle.sy_reading.specs.Laws.{ReadExprsAreRuns, ReadBlocksAreBlocks};
+ghost use Rattle.sy_reading.specs.Laws.{ReadExprsAreRuns, ReadBlocksAreBlocks, RunsAreRead, BlocksAreRead};
 
 #[cfg(test)]
 mod tests;
@@ -11,4 +11,10 @@ mod tests;
 pub fn what_is_read_is_in_the_grammar()
     ensures expressions { ReadExprsAreRuns }
     ensures blocks { ReadBlocksAreBlocks }
+{}
+
+/// What is in the grammar is read, so that there is one tree at most. The contract is the law, and the body is empty.
+pub fn what_is_in_the_grammar_is_read()
+    ensures expressions { RunsAreRead }
+    ensures blocks { BlocksAreRead }
 {}
