@@ -9,3 +9,4 @@ pub mod Runs
 pub mod Sound
 pub mod Steps
 pub mod StmtSound
+pub mod OneTree
