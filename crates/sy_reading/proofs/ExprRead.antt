@@ -1,7 +1,5 @@
 -- Expressions that stand there are read, where what stands below is.
-use Rattle.std.proofs.Common.{◌≡◌, ℕ, zero, suc, ◌+◌, ◌-◌, ◌≤◌, ◌<◌, max, nat_lt, not, Bool, true, false, cond, ◌&&◌, List, [], ◌∷◌, ◌++◌, length, ◌⊎◌, inl, inr, ⊎_elim, Option, Some, None, refl, sym, ap, ◌∙◌, subst, arith, append_assoc, append-nil, length-drop, lt-ltb, le-ltb, codes}
-use Rattle.std.proofs.lemmas.Bool.{ltb-true, ltb-false}
-use Rattle.std.proofs.lemmas.Slice.Eq.{bytes_eq-Decides}
+use Rattle.std.proofs.Common.{◌≡◌, ℕ, zero, suc, ◌+◌, ◌-◌, ◌≤◌, ◌<◌, max, not, Bool, true, false, cond, ◌&&◌, List, [], ◌∷◌, ◌++◌, length, ◌⊎◌, inl, inr, ⊎_elim, Option, Some, None, refl, sym, ap, ◌∙◌, subst, arith, append_assoc, append-nil, length-drop, lt-ltb, le-ltb, codes}
 use Rattle.std.specs.Str.{bytes_eq}
 use Rattle.sy_lex.specs.declared.Row.TheVariants as row
 use Rattle.sy_lex.specs.declared.Token.{Token}
@@ -26,17 +24,16 @@ use Rattle.sy_tree.specs.declared.tree.Expr.TheVariants as tree
 use Rattle.sy_tree.specs.declared.tree.Lambda.{Lambda}
 use Rattle.sy_tree.specs.declared.tree.Stmt.{Stmt}
 use Rattle.sy_tree.specs.Expressions.{Node, an_expr, a_lambda, a_stmt, AnyExpr, ArgumentRule, OneArgument, ExprRule}
-use Rattle.sy_tree.specs.Grammar.{NodeRule, Derives}
+use Rattle.sy_tree.specs.Grammar.{Derives}
 use Rattle.sy_tree.specs.Layers.{ArgumentLayer, ExprLayer}
 use Rattle.sy_tree.specs.Lists.{Optional, Listed, MaybeListed}
 use Rattle.sy_tree.specs.Words.{At, Sees, Lexed, Sycl, mark, keyword, identifier, level, spelling, step_spelling, unary_spelling, tag_spelling, object_spelling, function_spelling}
-use Rattle.sy_tree.proofs.Theorems.{Derives-taller, Derives-looser}
+use Rattle.sy_tree.proofs.Theorems.{Derives-looser}
 use Rattle.sy_reading.specs.Exprs as r
-use Rattle.sy_reading.specs.Input.{Reader, Tall, grown, expect, lexed, sees, sees_row, sees_namespace, mark_text, advance, named, qualified, all_listed, maybe_listed}
-use Rattle.sy_reading.specs.Parts.{opened, closing_text, closed, empty_brackets, integral, one_word, object_by, maybe_template_argument}
-use Rattle.sy_reading.specs.Tables.{tag_of, object_of, function_of, unary_of, step_of, operator_of, or_else, arithmetic_of, comparison_of, bitwise_of, logical_of}
+use Rattle.sy_reading.specs.Input.{Reader, Tall, grown, expect, lexed, sees, sees_row, sees_namespace, mark_text, advance, named, all_listed, maybe_listed}
+use Rattle.sy_reading.specs.Parts.{closing_text, integral, object_by}
+use Rattle.sy_reading.specs.Tables.{tag_of, object_of, function_of, unary_of, step_of, operator_of, arithmetic_of, comparison_of, bitwise_of, logical_of}
 use Rattle.sy_tree.specs.Qualification.{same_row}
-use Rattle.sy_num.specs.declared.BinOp.{BinOp}
 use Rattle.sy_num.specs.declared.BinOp.TheVariants as bin
 use Rattle.sy_tree.specs.declared.operators.Operator.TheVariants as operator
 use Rattle.sy_tree.specs.declared.parts.Step.TheVariants as step
@@ -45,28 +42,27 @@ use Rattle.sy_lex.specs.declared.Row.{Row}
 use Rattle.sy_lex.specs.declared.Word.{Word}
 use Rattle.sy_tree.specs.declared.parts.Lexeme.{Lexeme}
 use Prim.Native.String.{String}
-use Rattle.sy_tree.specs.declared.tree.Block.{Block, out-Block, roll-Block, roll-out-Block}
-use Rattle.sy_tree.specs.declared.tree.Lambda.{out-Lambda, roll-Lambda, roll-out-Lambda}
+use Rattle.sy_tree.specs.declared.tree.Block.{Block, out-Block, roll-out-Block}
+use Rattle.sy_tree.specs.declared.tree.Lambda.{out-Lambda, roll-out-Lambda}
 use Rattle.sy_tree.specs.declared.parts.Brackets.{Brackets}
 use Rattle.sy_tree.specs.declared.parts.Brackets.TheVariants as brackets
 use Rattle.sy_tree.specs.Beginnings.{opens, opens_expr, first}
 use Rattle.sy_tree.specs.Expressions.{a_block, BracketedArguments}
 use Rattle.sy_tree.specs.Lists.{Rule, Each}
 use Rattle.sy_tree.specs.Statements.{Substatement}
-use Rattle.sy_tree.specs.Types.{OneWordIntegral, Object}
+use Rattle.sy_tree.specs.Types.{Object}
 use Rattle.sy_tree.specs.declared.parts.ObjectType.{ObjectType}
 use Rattle.sy_tree.specs.declared.parts.ObjectType.TheVariants as object
 use Rattle.sy_tree.specs.Words.{opening, closing}
 use Rattle.sy_tree.proofs.Theorems.{Derives-takes, Derives-begins}
 use Rattle.sy_reading.specs.Input.{next, is_word}
-use Rattle.sy_reading.specs.Parts.{sees_type, is_some, one_capture, maybe_parameters}
+use Rattle.sy_reading.specs.Parts.{sees_type, is_some}
 use Rattle.sy_reading.specs.Tables.{one_word_of, keyword_of, fixed_width_of}
 use Rattle.sy_reading.proofs.Steps.{word, is_that, seen, and_both, same_row_is}
 use Rattle.sy_reading.proofs.ReadSteps.{sees_at, next_at, expect_at, sees_other, row_at, no_row, lexed_at, grows, at_length, passed, ReadsAs, list_short, all_listed_read, maybe_listed_read}
 use Rattle.sy_reading.proofs.PartsRead.{integral_next, and_no, opened_read, closed_read, empty_brackets_read, integral_read, integral_type, one_word_read, not_type, sycl_read, OfNames, object_named, captures_read, maybe_parameters_read, maybe_template_argument_read, namespace_at}
-
 use Rattle.sy_reading.specs.Stmts as st
-use Rattle.sy_reading.specs.Parts.{opened, type_specifier, const_specifier, object_type, declares_object, then_name, template_object, object_or}
+use Rattle.sy_reading.specs.Parts.{type_specifier, object_type, declares_object, template_object}
 use Rattle.sy_reading.specs.Tables.{assignment_of, plain_object_of}
 use Rattle.sy_tree.specs.declared.operators.AssignmentOperator.{AssignmentOperator}
 use Rattle.sy_tree.specs.declared.operators.AssignmentOperator.TheVariants as asg
@@ -90,13 +86,12 @@ use Rattle.sy_tree.specs.declared.tree.Stmt.TheVariants as ts
 use Rattle.sy_tree.specs.Declarations.{DeclaratorRule, OneDeclarator, InitializerRule, Initialized, DeclarationRule}
 use Rattle.sy_tree.specs.Expressions.{a_full, InParentheses}
 use Rattle.sy_tree.specs.Layers.{DeclarationLayer, DeclaratorLayer, FullExpressionLayer, InitializerLayer, PrintedLayer, StmtLayer}
-use Rattle.sy_tree.specs.Lists.{Maybe, OneOrMore}
-use Rattle.sy_tree.specs.Statements.{IsInitStatement, AnyFull, FullRule, PrintedRule, OnePrinted, InitStatement, StmtRule, BlockRule}
+use Rattle.sy_tree.specs.Lists.{Maybe}
+use Rattle.sy_tree.specs.Statements.{IsInitStatement, AnyFull, FullRule, PrintedRule, OnePrinted, InitStatement, StmtRule}
 use Rattle.sy_tree.specs.Types.{TypeSpecified, ConstSpecified}
 use Rattle.sy_tree.specs.Words.{Std, assignment_spelling}
 use Rattle.sy_reading.proofs.ReadSteps.{after_none, after_at, named_at, within_at, maybe_sees, maybe_after}
 use Rattle.sy_reading.proofs.PartsRead.{NoWord, type_specifier_read, const_specifier_read, object_read}
-use Rattle.sy_reading.specs.Input.{within}
 use Rattle.sy_reading.proofs.PartsSound.{integral_is}
 
 -- ---- trees from their layers
@@ -770,9 +765,18 @@ module _ (sub : ℕ → Reader (Tall Expr)) (stmt : Reader (Tall Stmt)) (n : ℕ
       let no = begins_no (opens (a_block (out-Lambda l).body)) row.Mark (codes "(") refl d.3 (Derives-begins m (a_block (out-Lambda l).body) d.3 rest d.8) in
       let b = block_read m (omega arith) (out-Lambda l).body d.3 rest d.8 in
       let lt : b.0 < 64 = omega (arith, b.1, small, low) in
-      subst (λ z. ReadsAs (r.one_lambda sub stmt from) (suc m) z rest) (roll-out-Lambda l)
-      (b.0 + 1, omega (arith, b.1), rw (expect_at row.Mark (codes "[") d.4, cs.2, expect_at row.Mark (codes "]") d.6.1,
-      maybe_parameters_read (out-Lambda l).parameters d.2 d.3 no d.7, b.2, grows {A = Lambda} _ _ _ lt) refl)
+      subst (λ z. ReadsAs (r.one_lambda sub stmt from) (suc m) z rest) (roll-out-Lambda l) (
+        b.0 + 1,
+        omega (arith, b.1),
+        rw (
+          expect_at row.Mark (codes "[") d.4,
+          cs.2,
+          expect_at row.Mark (codes "]") d.6.1,
+          maybe_parameters_read (out-Lambda l).parameters d.2 d.3 no d.7,
+          b.2,
+          grows {A = Lambda} _ _ _ lt,
+        ) refl,
+      )
 
 -- ---- arguments and primary expressions, where all of a height of at most n is read
 
@@ -1031,16 +1035,31 @@ module _ (sub : ℕ → Reader (Tall Expr)) (stmt : Reader (Tall Stmt)) (n : ℕ
       let p = parenthesis_read m le x e d.3 d.4 d.5 rest d.10 d.11 d.12 in
       let lt : p.0 < 64 = omega (arith, p.1, le, small) in
       based (suc m) (p.0 + 1) (tree.StaticCast s t x e) from rest (omega (arith, p.1)) (plain from (row_at row.Mark false d.6 refl))
-      (reserved_first from (row_at row.Reserved true d.6 refl) ∙ rw (sees_other row.Reserved (codes "true") d.6 refl, sees_other row.Reserved (codes "false") d.6 refl, sees_at row.Reserved (codes "static_cast") d.6,
-      expect_at row.Reserved (codes "static_cast") d.6, expect_at row.Mark (codes "<") d.7.1, integral_read t d.1 d.2 (row_at row.Reserved false d.9.1 refl) d.8, expect_at row.Mark (codes ">") d.9.1, p.2, grows {A = Expr} _ _ _ lt) refl)
+      (reserved_first from (row_at row.Reserved true d.6 refl) ∙ rw (
+        sees_other row.Reserved (codes "true") d.6 refl,
+        sees_other row.Reserved (codes "false") d.6 refl,
+        sees_at row.Reserved (codes "static_cast") d.6,
+        expect_at row.Reserved (codes "static_cast") d.6,
+        expect_at row.Mark (codes "<") d.7.1,
+        integral_read t d.1 d.2 (row_at row.Reserved false d.9.1 refl) d.8,
+        expect_at row.Mark (codes ">") d.9.1,
+        p.2,
+        grows {A = Expr} _ _ _ lt,
+      ) refl)
   postfix_layer m le left (Expr-F.FunctionalCast t x e) from rest d follows =
       let p = parenthesis_read m le x e d.0 d.1 d.2 rest d.4 d.5 d.6 in
       let lt : p.0 < 64 = omega (arith, p.1, le, small) in
       let is_type = integral_type t from d.0 d.3.0 in
       let reserved = type_row from is_type in
       based (suc m) (p.0 + 1) (tree.FunctionalCast t x e) from rest (omega (arith, p.1)) (plain from (other_row row.Reserved row.Mark from reserved refl))
-      (reserved_first from reserved ∙ rw (not_type (codes "true") refl from is_type, not_type (codes "false") refl from is_type, not_type (codes "static_cast") refl from is_type,
-      one_word_read t from d.0 d.3, p.2, grows {A = Expr} _ _ _ lt) refl)
+      (reserved_first from reserved ∙ rw (
+        not_type (codes "true") refl from is_type,
+        not_type (codes "false") refl from is_type,
+        not_type (codes "static_cast") refl from is_type,
+        one_word_read t from d.0 d.3,
+        p.2,
+        grows {A = Expr} _ _ _ lt,
+      ) refl)
   postfix_layer m le left (Expr-F.Construct t b s xs e) from rest d follows =
       let c = construct_read m le t b s xs e from d.0 rest d.1 d.2 in
       based (suc m) c.0 (tree.Construct t b s xs e) from rest c.1 (library_plain (object_at t from d.0 d.1).3) c.2
@@ -1053,19 +1072,35 @@ module _ (sub : ℕ → Reader (Tall Expr)) (stmt : Reader (Tall Stmt)) (n : ℕ
       based (suc m) 1 (tree.AccessTag q t) from rest (omega arith) (library_plain d.2) (library_at (tag_spelling t) q from rest d ∙ access_read t q rest)
   postfix_layer m le left (Expr-F.InOrder q b e) from rest d follows =
       based (suc m) 1 (tree.InOrder q b e) from rest (omega arith) (library_plain d.6.2)
-      (library_at "property" q from d.0 d.6 ∙ property_read q d.0 ∙ rw (expect_at row.Mark (codes "::") d.7.1, sees_at row.Ident (codes "queue") d.8.1, expect_at row.Ident (codes "queue") d.8.1,
-      expect_at row.Mark (codes "::") d.9.1, expect_at row.Ident (codes "in_order") d.10.1, empty_brackets_read b d.11.0 e d.4 d.5 rest d.11.1 d.12) refl)
+      (library_at "property" q from d.0 d.6 ∙ property_read q d.0 ∙ rw (
+        expect_at row.Mark (codes "::") d.7.1,
+        sees_at row.Ident (codes "queue") d.8.1,
+        expect_at row.Ident (codes "queue") d.8.1,
+        expect_at row.Mark (codes "::") d.9.1,
+        expect_at row.Ident (codes "in_order") d.10.1,
+        empty_brackets_read b d.11.0 e d.4 d.5 rest d.11.1 d.12,
+      ) refl)
   postfix_layer m le left (Expr-F.ErrorCode q x) from rest d follows =
       based (suc m) 1 (tree.ErrorCode q x) from rest (omega arith) (library_plain d.2.2)
       (library_at "errc" q from d.0 d.2 ∙ error_read q d.0 ∙ rw (expect_at row.Mark (codes "::") d.3.1, lexed_at row.Ident x d.4) refl)
   postfix_layer m le left (Expr-F.InitializeToIdentity q b e) from rest d follows =
       based (suc m) 1 (tree.InitializeToIdentity q b e) from rest (omega arith) (library_plain d.6.2)
-      (library_at "property" q from d.0 d.6 ∙ property_read q d.0 ∙ rw (expect_at row.Mark (codes "::") d.7.1, sees_other row.Ident (codes "queue") d.8.1 refl, expect_at row.Ident (codes "reduction") d.8.1,
-      expect_at row.Mark (codes "::") d.9.1, expect_at row.Ident (codes "initialize_to_identity") d.10.1, empty_brackets_read b d.11.0 e d.4 d.5 rest d.11.1 d.12) refl)
+      (library_at "property" q from d.0 d.6 ∙ property_read q d.0 ∙ rw (
+        expect_at row.Mark (codes "::") d.7.1,
+        sees_other row.Ident (codes "queue") d.8.1 refl,
+        expect_at row.Ident (codes "reduction") d.8.1,
+        expect_at row.Mark (codes "::") d.9.1,
+        expect_at row.Ident (codes "initialize_to_identity") d.10.1,
+        empty_brackets_read b d.11.0 e d.4 d.5 rest d.11.1 d.12,
+      ) refl)
   postfix_layer m le left (Expr-F.FunctionObject q f t b e) from rest d follows =
       based (suc m) 1 (tree.FunctionObject q f t b e) from rest (omega arith) (library_plain d.5.2)
-      (library_at (object_spelling f) q from d.0 d.5 ∙ function_object_read f q d.0 ∙ rw (expect_at row.Mark (codes "<") d.6.1, maybe_integral_read t d.1 d.2 d.3 d.7 d.8, expect_at row.Mark (codes ">") d.8.1,
-      empty_brackets_read b d.9.0 e d.3 d.4 rest d.9.1 d.10) refl)
+      (library_at (object_spelling f) q from d.0 d.5 ∙ function_object_read f q d.0 ∙ rw (
+        expect_at row.Mark (codes "<") d.6.1,
+        maybe_integral_read t d.1 d.2 d.3 d.7 d.8,
+        expect_at row.Mark (codes ">") d.8.1,
+        empty_brackets_read b d.9.0 e d.3 d.4 rest d.9.1 d.10,
+      ) refl)
   postfix_layer m le left (Expr-F.LibraryCall q f xs e) from rest d follows =
       let all = arguments_read m le brackets.Parentheses xs e d.1 d.2 rest d.5 d.6 in
       let lt : all.0 < 64 = omega (arith, all.1, le, small) in
@@ -1082,8 +1117,17 @@ module _ (sub : ℕ → Reader (Tall Expr)) (stmt : Reader (Tall Stmt)) (n : ℕ
       let all = arguments_read m le brackets.Parentheses xs e d.4 d.5 rest d.11 d.12 in
       let lt : max base.0 all.0 < 64 = omega (arith, base.2, all.1, le, small) in
       stepped m all.0 a (tree.MemberCall a x t xs e) from d.0 rest base le (omega (arith, base.2, all.1)) (binds_at (codes ".") d.7.1 ∙ dot_binds)
-      (rw (sees_other row.Mark (codes "[") d.7.1 refl, sees_at row.Mark (codes ".") d.7.1, expect_at row.Mark (codes ".") d.7.1, lexed_at row.Ident x d.8,
-      maybe_template_argument_read x t d.2 d.3 (sees_other row.Mark (codes "<") d.10.1 refl) d.9, expect_at row.Mark (codes "(") d.10.1, all.2, expect_at row.Mark (codes ")") d.12, grows {A = Expr} _ _ _ lt) refl)
+      (rw (
+        sees_other row.Mark (codes "[") d.7.1 refl,
+        sees_at row.Mark (codes ".") d.7.1,
+        expect_at row.Mark (codes ".") d.7.1,
+        lexed_at row.Ident x d.8,
+        maybe_template_argument_read x t d.2 d.3 (sees_other row.Mark (codes "<") d.10.1 refl) d.9,
+        expect_at row.Mark (codes "(") d.10.1,
+        all.2,
+        expect_at row.Mark (codes ")") d.12,
+        grows {A = Expr} _ _ _ lt,
+      ) refl)
   postfix_layer m le left (Expr-F.Postfix a s o) from rest d follows =
       let on = step_goes_on o d.2 in
       let base = left a from d.0 d.1 on.0 in
@@ -1159,8 +1203,18 @@ module _ (sub : ℕ → Reader (Tall Expr)) (stmt : Reader (Tall Stmt)) (n : ℕ
       r.prefix sub stmt from ≡ Some ((tree.Cast s t a, h + 1), rest)
   unfolding r.prefix r.cast_or_postfix r.sees_cast r.cast step_of unary_of mark
   cast_read s t a h from m k i rest lt at d c e =
-      rw (mark_text_at (codes "(") at, sees_at row.Mark (codes "(") at, next_at at, integral_type t m k d, integral_next (codes "(") t m k d (sees_other row.Mark (codes "(") c.1 refl),
-      expect_at row.Mark (codes "(") at, integral_read t m k (row_at row.Reserved false c.1 refl) d, expect_at row.Mark (codes ")") c.1, e, grows {A = Expr} _ _ _ lt) refl
+      rw (
+        mark_text_at (codes "(") at,
+        sees_at row.Mark (codes "(") at,
+        next_at at,
+        integral_type t m k d,
+        integral_next (codes "(") t m k d (sees_other row.Mark (codes "(") c.1 refl),
+        expect_at row.Mark (codes "(") at,
+        integral_read t m k (row_at row.Reserved false c.1 refl) d,
+        expect_at row.Mark (codes ")") c.1,
+        e,
+        grows {A = Expr} _ _ _ lt,
+      ) refl
 
   step_read : (s : Spot) (o : Step) (a : Expr) (h : ℕ) (from m rest : List Token) → h < 64 → At (mark (step_spelling o)) s from m → sub 12 m ≡ Some ((a, h), rest) →
       r.prefix sub stmt from ≡ Some ((tree.Prefix s o a, h + 1), rest)
@@ -1384,8 +1438,14 @@ module _ (sub : ℕ → Reader (Tall Expr)) (stmt : Reader (Tall Stmt)) (n : ℕ
   expression_simple m x from mid d lt =
       let begins = Derives-begins m (an_expr 1 x) from mid d in
       let declares = no_declaration m 1 x from mid d (binds_no (codes "::") colons_binds mid (omega (arith, lt))) in
-      rw (begins_no opens_expr row.Mark (codes ";") refl from begins, begins_no opens_expr row.Reserved (codes "const") refl from begins, begins_no opens_expr row.Reserved (codes "constexpr") refl from begins,
-      begins_no opens_expr row.Reserved (codes "auto") refl from begins, typed_call m 1 x from mid d, declares.0) (by_library from declares.1)
+      rw (
+        begins_no opens_expr row.Mark (codes ";") refl from begins,
+        begins_no opens_expr row.Reserved (codes "const") refl from begins,
+        begins_no opens_expr row.Reserved (codes "constexpr") refl from begins,
+        begins_no opens_expr row.Reserved (codes "auto") refl from begins,
+        typed_call m 1 x from mid d,
+        declares.0,
+      ) (by_library from declares.1)
 
   -- no word of a statement
   abbrev NoStatement : List Token → Type 0
@@ -1458,44 +1518,131 @@ module _ (sub : ℕ → Reader (Tall Expr)) (stmt : Reader (Tall Stmt)) (n : ℕ
 
   words_layer : (m : ℕ) → m ≤ n → (y : StmtLayer) (from rest : List Token) → StmtRule (Derives m) y from rest → IsWord y → StmtAs m y from rest
   unfolding st.one_stmt st.reserved st.repeated st.break_loop st.continue_loop st.return_value st.branch st.otherwise st.while_loop st.do_loop st.null st.simple mark keyword
-  words_layer m le (Stmt-F.Break s c) from rest d w =
-      (1, omega arith, rw (sees_other row.Mark (codes "{") d.1 refl, row_at row.Reserved true d.1 refl, sees_other row.Reserved (codes "if") d.1 refl, sees_at row.Reserved (codes "break") d.1,
-      expect_at row.Reserved (codes "break") d.1, expect_at row.Mark (codes ";") d.2) refl)
-  words_layer m le (Stmt-F.Continue s c) from rest d w =
-      (1, omega arith, rw (sees_other row.Mark (codes "{") d.1 refl, row_at row.Reserved true d.1 refl, sees_other row.Reserved (codes "if") d.1 refl, sees_other row.Reserved (codes "break") d.1 refl,
-      sees_at row.Reserved (codes "continue") d.1, expect_at row.Reserved (codes "continue") d.1, expect_at row.Mark (codes ";") d.2) refl)
+  words_layer m le (Stmt-F.Break s c) from rest d w = (
+    1,
+    omega arith,
+    rw (
+      sees_other row.Mark (codes "{") d.1 refl,
+      row_at row.Reserved true d.1 refl,
+      sees_other row.Reserved (codes "if") d.1 refl,
+      sees_at row.Reserved (codes "break") d.1,
+      expect_at row.Reserved (codes "break") d.1,
+      expect_at row.Mark (codes ";") d.2,
+    ) refl,
+  )
+  words_layer m le (Stmt-F.Continue s c) from rest d w = (
+    1,
+    omega arith,
+    rw (
+      sees_other row.Mark (codes "{") d.1 refl,
+      row_at row.Reserved true d.1 refl,
+      sees_other row.Reserved (codes "if") d.1 refl,
+      sees_other row.Reserved (codes "break") d.1 refl,
+      sees_at row.Reserved (codes "continue") d.1,
+      expect_at row.Reserved (codes "continue") d.1,
+      expect_at row.Mark (codes ";") d.2,
+    ) refl,
+  )
   words_layer m le (Stmt-F.Return s x c) from rest d w =
       let v = maybe_expr_read m le x d.0 d.1 rest d.3 d.4 in
-      let lt : v.0 < 64 = omega (arith, v.1, le, small) in
-      (v.0 + 1, omega (arith, v.1), rw (sees_other row.Mark (codes "{") d.2 refl, row_at row.Reserved true d.2 refl, sees_other row.Reserved (codes "if") d.2 refl, sees_other row.Reserved (codes "break") d.2 refl,
-      sees_other row.Reserved (codes "continue") d.2 refl, sees_at row.Reserved (codes "return") d.2, expect_at row.Reserved (codes "return") d.2, v.2, expect_at row.Mark (codes ";") d.4, grows {A = Stmt} _ _ _ lt) refl)
+      let lt : v.0 < 64 = omega (arith, v.1, le, small) in (
+        v.0 + 1,
+        omega (arith, v.1),
+        rw (
+          sees_other row.Mark (codes "{") d.2 refl,
+          row_at row.Reserved true d.2 refl,
+          sees_other row.Reserved (codes "if") d.2 refl,
+          sees_other row.Reserved (codes "break") d.2 refl,
+          sees_other row.Reserved (codes "continue") d.2 refl,
+          sees_at row.Reserved (codes "return") d.2,
+          expect_at row.Reserved (codes "return") d.2,
+          v.2,
+          expect_at row.Mark (codes ";") d.4,
+          grows {A = Stmt} _ _ _ lt,
+        ) refl,
+      )
   words_layer m le (Stmt-F.If s c x None) from rest d w =
       let v = condition_read m le c d.0 d.1 d.3 in
       let a = whole_stmt m x d.1 rest le d.4 in
       let no_more = no_else rest d.5 in
-      let lt : max v.0 a.0 < 64 = omega (arith, v.1, a.1, le, small) in
-      (max v.0 a.0 + 1, omega (arith, v.1, a.1), rw (sees_other row.Mark (codes "{") d.2 refl, row_at row.Reserved true d.2 refl, sees_at row.Reserved (codes "if") d.2, expect_at row.Reserved (codes "if") d.2, v.2, a.2,
-      no_more, after_none row.Reserved (codes "else") rest no_more, grows {A = Stmt} _ _ _ lt) refl)
+      let lt : max v.0 a.0 < 64 = omega (arith, v.1, a.1, le, small) in (
+        max v.0 a.0 + 1,
+        omega (arith, v.1, a.1),
+        rw (
+          sees_other row.Mark (codes "{") d.2 refl,
+          row_at row.Reserved true d.2 refl,
+          sees_at row.Reserved (codes "if") d.2,
+          expect_at row.Reserved (codes "if") d.2,
+          v.2,
+          a.2,
+          no_more,
+          after_none row.Reserved (codes "else") rest no_more,
+          grows {A = Stmt} _ _ _ lt,
+        ) refl,
+      )
   words_layer m le (Stmt-F.If s c x (Some y)) from rest d w =
       let v = condition_read m le c d.0 d.1 d.5 in
       let a = whole_stmt m x d.1 d.2 le d.6 in
       let b = whole_stmt m y d.3 rest le d.8 in
-      let lt : max v.0 (max a.0 b.0) < 64 = omega (arith, v.1, a.1, b.1, le, small) in
-      (max v.0 (max a.0 b.0) + 1, omega (arith, v.1, a.1, b.1), rw (sees_other row.Mark (codes "{") d.4 refl, row_at row.Reserved true d.4 refl, sees_at row.Reserved (codes "if") d.4, expect_at row.Reserved (codes "if") d.4, v.2, a.2,
-      sees_at row.Reserved (codes "else") d.7.1, after_at row.Reserved (codes "else") d.7.1, b.2, grows {A = Stmt} _ _ _ lt) refl)
+      let lt : max v.0 (max a.0 b.0) < 64 = omega (arith, v.1, a.1, b.1, le, small) in (
+        max v.0 (max a.0 b.0) + 1,
+        omega (arith, v.1, a.1, b.1),
+        rw (
+          sees_other row.Mark (codes "{") d.4 refl,
+          row_at row.Reserved true d.4 refl,
+          sees_at row.Reserved (codes "if") d.4,
+          expect_at row.Reserved (codes "if") d.4,
+          v.2,
+          a.2,
+          sees_at row.Reserved (codes "else") d.7.1,
+          after_at row.Reserved (codes "else") d.7.1,
+          b.2,
+          grows {A = Stmt} _ _ _ lt,
+        ) refl,
+      )
   words_layer m le (Stmt-F.While s c x) from rest d w =
       let v = condition_read m le c d.0 d.1 d.3 in
       let a = whole_stmt m x d.1 rest le d.4 in
-      let lt : max v.0 a.0 < 64 = omega (arith, v.1, a.1, le, small) in
-      (max v.0 a.0 + 1, omega (arith, v.1, a.1), rw (sees_other row.Mark (codes "{") d.2 refl, row_at row.Reserved true d.2 refl, sees_other row.Reserved (codes "if") d.2 refl, sees_other row.Reserved (codes "break") d.2 refl,
-      sees_other row.Reserved (codes "continue") d.2 refl, sees_other row.Reserved (codes "return") d.2 refl, sees_at row.Reserved (codes "while") d.2, expect_at row.Reserved (codes "while") d.2, v.2, a.2, grows {A = Stmt} _ _ _ lt) refl)
+      let lt : max v.0 a.0 < 64 = omega (arith, v.1, a.1, le, small) in (
+        max v.0 a.0 + 1,
+        omega (arith, v.1, a.1),
+        rw (
+          sees_other row.Mark (codes "{") d.2 refl,
+          row_at row.Reserved true d.2 refl,
+          sees_other row.Reserved (codes "if") d.2 refl,
+          sees_other row.Reserved (codes "break") d.2 refl,
+          sees_other row.Reserved (codes "continue") d.2 refl,
+          sees_other row.Reserved (codes "return") d.2 refl,
+          sees_at row.Reserved (codes "while") d.2,
+          expect_at row.Reserved (codes "while") d.2,
+          v.2,
+          a.2,
+          grows {A = Stmt} _ _ _ lt,
+        ) refl,
+      )
   words_layer m le (Stmt-F.Do s x c z) from rest d w =
       let a = whole_stmt m x d.0 d.1 le d.5 in
       let v = condition_read m le c d.2 d.3 d.7 in
-      let lt : max a.0 v.0 < 64 = omega (arith, v.1, a.1, le, small) in
-      (max a.0 v.0 + 1, omega (arith, v.1, a.1), rw (sees_other row.Mark (codes "{") d.4 refl, row_at row.Reserved true d.4 refl, sees_other row.Reserved (codes "if") d.4 refl, sees_other row.Reserved (codes "break") d.4 refl,
-      sees_other row.Reserved (codes "continue") d.4 refl, sees_other row.Reserved (codes "return") d.4 refl, sees_other row.Reserved (codes "while") d.4 refl, sees_at row.Reserved (codes "do") d.4, expect_at row.Reserved (codes "do") d.4, a.2,
-      expect_at row.Reserved (codes "while") d.6.1, v.2, expect_at row.Mark (codes ";") d.8, grows {A = Stmt} _ _ _ lt) refl)
+      let lt : max a.0 v.0 < 64 = omega (arith, v.1, a.1, le, small) in (
+        max a.0 v.0 + 1,
+        omega (arith, v.1, a.1),
+        rw (
+          sees_other row.Mark (codes "{") d.4 refl,
+          row_at row.Reserved true d.4 refl,
+          sees_other row.Reserved (codes "if") d.4 refl,
+          sees_other row.Reserved (codes "break") d.4 refl,
+          sees_other row.Reserved (codes "continue") d.4 refl,
+          sees_other row.Reserved (codes "return") d.4 refl,
+          sees_other row.Reserved (codes "while") d.4 refl,
+          sees_at row.Reserved (codes "do") d.4,
+          expect_at row.Reserved (codes "do") d.4,
+          a.2,
+          expect_at row.Reserved (codes "while") d.6.1,
+          v.2,
+          expect_at row.Mark (codes ";") d.8,
+          grows {A = Stmt} _ _ _ lt,
+        ) refl,
+      )
   words_layer m le _ from rest d w = absurd w
 
   -- ---- declarations
@@ -1597,48 +1744,136 @@ module _ (sub : ℕ → Reader (Tall Expr)) (stmt : Reader (Tall Stmt)) (n : ℕ
       let all = all_listed_read (st.one_declarator sub stmt) (OneDeclarator (Derives m)) m Closed (declarator_short m) (declarator_read m le) comma_closed ds d.1 d.2 (omega (arith, at_length d.6)) d.5 (semicolon_closed d.6) (sees_other row.Mark (codes ",") d.6 refl) in
       let lt : all.0 < 64 = omega (arith, all.1, le, small) in
       let const_no = type_not (codes "const") refl refl t d.0 d.1 d.4 in
-      let constexpr_no = type_not (codes "constexpr") refl refl t d.0 d.1 d.4 in
-      ((all.0 + 1, omega (arith, all.1), rw (no_row row.Mark (codes ";") from no_mark, specified_declares c t from d.0 d.1 d.3 d.4 (no_row row.Mark (codes "(") d.1 (other_row row.Ident row.Mark d.1 ident refl)),
-      const_specifier_read c from d.0 const_no constexpr_no d.3, type_specifier_read t d.0 d.1 (other_row row.Ident row.Reserved d.1 ident refl) d.4, all.2, expect_at row.Mark (codes ";") d.6, grows {A = Stmt} _ _ _ lt) refl),
-      to_simple from (no_row row.Mark (codes "{") from no_mark) (specified_words c t from d.0 d.1 d.3 d.4) (rw (no_row row.Ident (codes "std") from no_ident) refl))
+      let constexpr_no = type_not (codes "constexpr") refl refl t d.0 d.1 d.4 in (
+        (
+          all.0 + 1,
+          omega (arith, all.1),
+          rw (
+            no_row row.Mark (codes ";") from no_mark,
+            specified_declares c t from d.0 d.1 d.3 d.4 (no_row row.Mark (codes "(") d.1 (other_row row.Ident row.Mark d.1 ident refl)),
+            const_specifier_read c from d.0 const_no constexpr_no d.3,
+            type_specifier_read t d.0 d.1 (other_row row.Ident row.Reserved d.1 ident refl) d.4,
+            all.2,
+            expect_at row.Mark (codes ";") d.6,
+            grows {A = Stmt} _ _ _ lt,
+          ) refl,
+        ),
+        to_simple from (no_row row.Mark (codes "{") from no_mark) (specified_words c t from d.0 d.1 d.3 d.4) (rw (no_row row.Ident (codes "std") from no_ident) refl),
+      )
   declaration_layer m le (Declaration-F.Vector q t x v e) from rest d =
       let i = initializer_read m le v d.1 d.2 d.5 (semicolon_closed d.6) in
       let lt : i.0 < 64 = omega (arith, i.1, le, small) in
-      let ident = other_row row.Reserved row.Ident d.3.1 (type_row d.3.1 (integral_type t d.3.1 d.3.2 d.3.5)) refl in
-      ((i.0 + 1, omega (arith, i.1), std_simple "vector" q from d.3.0 d.3.3 ∙ rw (std_named "vector" q from d.3.0 d.3.3, expect_at row.Mark (codes "<") d.3.4.1, no_row row.Ident (codes "std") d.3.1 ident, no_row row.Ident (codes "sycl") d.3.1 ident,
-      integral_read t d.3.1 d.3.2 (row_at row.Reserved false d.3.6.1 refl) d.3.5, expect_at row.Mark (codes ">") d.3.6.1, lexed_at row.Ident x d.4, i.2, expect_at row.Mark (codes ";") d.6, grows {A = Stmt} _ _ _ lt) refl),
-      by_row from (row_at row.Ident true d.3.3.2 refl) (std_no_print "vector" refl q from d.3.0 d.3.3))
+      let ident = other_row row.Reserved row.Ident d.3.1 (type_row d.3.1 (integral_type t d.3.1 d.3.2 d.3.5)) refl in (
+        (
+          i.0 + 1,
+          omega (arith, i.1),
+          std_simple "vector" q from d.3.0 d.3.3 ∙ rw (
+            std_named "vector" q from d.3.0 d.3.3,
+            expect_at row.Mark (codes "<") d.3.4.1,
+            no_row row.Ident (codes "std") d.3.1 ident,
+            no_row row.Ident (codes "sycl") d.3.1 ident,
+            integral_read t d.3.1 d.3.2 (row_at row.Reserved false d.3.6.1 refl) d.3.5,
+            expect_at row.Mark (codes ">") d.3.6.1,
+            lexed_at row.Ident x d.4,
+            i.2,
+            expect_at row.Mark (codes ";") d.6,
+            grows {A = Stmt} _ _ _ lt,
+          ) refl,
+        ),
+        by_row from (row_at row.Ident true d.3.3.2 refl) (std_no_print "vector" refl q from d.3.0 d.3.3),
+      )
   declaration_layer m le (Declaration-F.DeviceVector q x v e) from rest d =
       let i = initializer_read m le v d.4 d.5 d.12 (semicolon_closed d.13) in
-      let lt : i.0 < 64 = omega (arith, i.1, le, small) in
-      ((i.0 + 1, omega (arith, i.1), std_simple "vector" q from d.0 d.7 ∙ rw (std_named "vector" q from d.0 d.7, expect_at row.Mark (codes "<") d.8.1, sees_other row.Ident (codes "std") d.9.2 refl, sees_at row.Ident (codes "sycl") d.9.2,
-      next_at d.9.2, sees_at row.Mark (codes "::") d.9.3.1, within_at (codes "sycl") (codes "device") d.6 d.1 d.9.0 d.9.1 d.2 d.9.2 d.9.3 d.9.4, expect_at row.Mark (codes ">") d.10.1, lexed_at row.Ident x d.11, i.2, expect_at row.Mark (codes ";") d.13, grows {A = Stmt} _ _ _ lt) refl),
-      by_row from (row_at row.Ident true d.7.2 refl) (std_no_print "vector" refl q from d.0 d.7))
-  declaration_layer m le (Declaration-F.ThreadVector q x e) from rest d =
-      ((1, omega arith, std_simple "vector" q from d.0 d.6 ∙ rw (std_named "vector" q from d.0 d.6, expect_at row.Mark (codes "<") d.7.1, sees_at row.Ident (codes "std") d.8.2,
-      next_at d.8.2, sees_at row.Mark (codes "::") d.8.3.1, within_at (codes "std") (codes "thread") d.5 d.1 d.8.0 d.8.1 d.2 d.8.2 d.8.3 d.8.4, expect_at row.Mark (codes ">") d.9.1, lexed_at row.Ident x d.10, expect_at row.Mark (codes ";") d.11) refl),
-      by_row from (row_at row.Ident true d.6.2 refl) (std_no_print "vector" refl q from d.0 d.6))
+      let lt : i.0 < 64 = omega (arith, i.1, le, small) in (
+        (
+          i.0 + 1,
+          omega (arith, i.1),
+          std_simple "vector" q from d.0 d.7 ∙ rw (
+            std_named "vector" q from d.0 d.7,
+            expect_at row.Mark (codes "<") d.8.1,
+            sees_other row.Ident (codes "std") d.9.2 refl,
+            sees_at row.Ident (codes "sycl") d.9.2,
+            next_at d.9.2,
+            sees_at row.Mark (codes "::") d.9.3.1,
+            within_at (codes "sycl") (codes "device") d.6 d.1 d.9.0 d.9.1 d.2 d.9.2 d.9.3 d.9.4,
+            expect_at row.Mark (codes ">") d.10.1,
+            lexed_at row.Ident x d.11,
+            i.2,
+            expect_at row.Mark (codes ";") d.13,
+            grows {A = Stmt} _ _ _ lt,
+          ) refl,
+        ),
+        by_row from (row_at row.Ident true d.7.2 refl) (std_no_print "vector" refl q from d.0 d.7),
+      )
+  declaration_layer m le (Declaration-F.ThreadVector q x e) from rest d = (
+    (
+      1,
+      omega arith,
+      std_simple "vector" q from d.0 d.6 ∙ rw (
+        std_named "vector" q from d.0 d.6,
+        expect_at row.Mark (codes "<") d.7.1,
+        sees_at row.Ident (codes "std") d.8.2,
+        next_at d.8.2,
+        sees_at row.Mark (codes "::") d.8.3.1,
+        within_at (codes "std") (codes "thread") d.5 d.1 d.8.0 d.8.1 d.2 d.8.2 d.8.3 d.8.4,
+        expect_at row.Mark (codes ">") d.9.1,
+        lexed_at row.Ident x d.10,
+        expect_at row.Mark (codes ";") d.11,
+      ) refl,
+    ),
+    by_row from (row_at row.Ident true d.6.2 refl) (std_no_print "vector" refl q from d.0 d.6),
+  )
   declaration_layer m le (Declaration-F.Thread q x b l e) from rest d =
       let i = lambda_read sub stmt n small whole_stmt m (omega arith) l d.2 d.3 d.8 in
-      let lt : i.0 < 64 = omega (arith, i.1, le, small) in
-      ((i.0 + 1, omega (arith, i.1), std_simple "thread" q from d.0 d.5 ∙ rw (std_named "thread" q from d.0 d.5, lexed_at row.Ident x d.6, opened_read b d.7.0 d.1 d.2 d.7.1, i.2, closed_read b d.9.0 d.3 d.4 d.9.1,
-      expect_at row.Mark (codes ";") d.10, grows {A = Stmt} _ _ _ lt) refl),
-      by_row from (row_at row.Ident true d.5.2 refl) (std_no_print "thread" refl q from d.0 d.5))
+      let lt : i.0 < 64 = omega (arith, i.1, le, small) in (
+        (
+          i.0 + 1,
+          omega (arith, i.1),
+          std_simple "thread" q from d.0 d.5 ∙ rw (
+            std_named "thread" q from d.0 d.5,
+            lexed_at row.Ident x d.6,
+            opened_read b d.7.0 d.1 d.2 d.7.1,
+            i.2,
+            closed_read b d.9.0 d.3 d.4 d.9.1,
+            expect_at row.Mark (codes ";") d.10,
+            grows {A = Stmt} _ _ _ lt,
+          ) refl,
+        ),
+        by_row from (row_at row.Ident true d.5.2 refl) (std_no_print "thread" refl q from d.0 d.5),
+      )
   declaration_layer m le (Declaration-F.Object t x v e) from rest d =
       let i = initializer_read m le v d.1 d.2 d.5 (semicolon_closed d.6) in
       let lt : i.0 < 64 = omega (arith, i.1, le, small) in
-      let at = object_at t from d.0 d.3 in
-      ((i.0 + 1, omega (arith, i.1), rw (sees_other row.Mark (codes ";") at.3 refl, no_integers from (row_at row.Reserved false at.3 refl), sees_other row.Ident (codes "std") at.3 refl, sees_at row.Ident (codes "sycl") at.3, next_at at.3, sees_at row.Mark (codes "::") at.4.1,
-      object_read t from d.0 (sees_other row.Mark (codes "<") d.4 refl) d.3, row_at row.Ident true d.4 refl, lexed_at row.Ident x d.4, i.2, expect_at row.Mark (codes ";") d.6, grows {A = Stmt} _ _ _ lt) refl),
-      by_row from (row_at row.Ident true at.3 refl) (rw (sees_other row.Ident (codes "std") at.3 refl) refl))
+      let at = object_at t from d.0 d.3 in (
+        (
+          i.0 + 1,
+          omega (arith, i.1),
+          rw (
+            sees_other row.Mark (codes ";") at.3 refl,
+            no_integers from (row_at row.Reserved false at.3 refl),
+            sees_other row.Ident (codes "std") at.3 refl,
+            sees_at row.Ident (codes "sycl") at.3,
+            next_at at.3,
+            sees_at row.Mark (codes "::") at.4.1,
+            object_read t from d.0 (sees_other row.Mark (codes "<") d.4 refl) d.3,
+            row_at row.Ident true d.4 refl,
+            lexed_at row.Ident x d.4,
+            i.2,
+            expect_at row.Mark (codes ";") d.6,
+            grows {A = Stmt} _ _ _ lt,
+          ) refl,
+        ),
+        by_row from (row_at row.Ident true at.3 refl) (rw (sees_other row.Ident (codes "std") at.3 refl) refl),
+      )
 
   -- ---- simple statements, of which one stands in the header of a for loop
 
   simple_layer : (m : ℕ) → m ≤ n → (y : StmtLayer) (from rest : List Token) → IsInitStatement y → StmtRule (Derives m) y from rest → SimpleAs (suc m) (stmt_made y) from rest
   unfolding st.simple st.null st.expression st.sees_print sees_namespace mark
-  simple_layer m le (Stmt-F.Null s) from rest w d =
-      ((1, omega arith, rw (sees_at row.Mark (codes ";") d, expect_at row.Mark (codes ";") d) refl),
-      to_simple from (sees_other row.Mark (codes "{") d refl) (no_words from (row_at row.Reserved false d refl)) (rw (sees_other row.Ident (codes "std") d refl) refl))
+  simple_layer m le (Stmt-F.Null s) from rest w d = (
+    (1, omega arith, rw (sees_at row.Mark (codes ";") d, expect_at row.Mark (codes ";") d) refl),
+    to_simple from (sees_other row.Mark (codes "{") d refl) (no_words from (row_at row.Reserved false d refl)) (rw (sees_other row.Ident (codes "std") d refl) refl),
+  )
   simple_layer m le (Stmt-F.Declaration y) from rest w d =
       subst (λ z. SimpleAs (suc m) (ts.Declaration z) from rest) (declaration_made_out y) (declaration_layer m le (out-Declaration y) from rest d)
   simple_layer m le (Stmt-F.Expression x e) from rest w d =
@@ -1667,9 +1902,18 @@ module _ (sub : ℕ → Reader (Tall Expr)) (stmt : Reader (Tall Stmt)) (n : ℕ
       let declares = no_declaration m 10 x d.0 rest d.2 (binds_no (codes "::") colons_binds rest (omega (arith, lt))) in
       (v.0, v.1, rw (expect_at row.Mark (codes "<<") d.1, no_string d.0 (Derives-begins m (an_expr 10 x) d.0 rest d.2), declares.0, v.2) refl)
   printed_layer m le (Printed-F.Text s x) from rest d lt = (0, omega arith, rw (expect_at row.Mark (codes "<<") d.1, row_at row.Str true d.2 refl, lexed_at row.Str x d.2) refl)
-  printed_layer m le (Printed-F.EndLine s q) from rest d lt =
-      (0, omega arith, rw (expect_at row.Mark (codes "<<") d.1, row_at row.Str false d.2.2 refl, sees_at row.Ident (codes "std") d.2.2, next_at d.2.2, sees_at row.Mark (codes "::") d.2.3.1,
-      within_at (codes "std") (codes "endl") q d.0 d.2.0 d.2.1 rest d.2.2 d.2.3 d.2.4) refl)
+  printed_layer m le (Printed-F.EndLine s q) from rest d lt = (
+    0,
+    omega arith,
+    rw (
+      expect_at row.Mark (codes "<<") d.1,
+      row_at row.Str false d.2.2 refl,
+      sees_at row.Ident (codes "std") d.2.2,
+      next_at d.2.2,
+      sees_at row.Mark (codes "::") d.2.3.1,
+      within_at (codes "std") (codes "endl") q d.0 d.2.0 d.2.1 rest d.2.2 d.2.3 d.2.4,
+    ) refl,
+  )
 
   printed_read : (m : ℕ) → m ≤ n → (x : Printed) (from rest : List Token) → OnePrinted (Derives m) x from rest → r.binds rest < 10 → ReadsAs (st.one_printed sub stmt from) m x rest
   printed_read m le x from rest d lt = subst (λ z. ReadsAs (st.one_printed sub stmt from) m z rest) (printed_made_out x) (printed_layer m le (out-Printed x) from rest d lt)
@@ -1714,8 +1958,15 @@ module _ (sub : ℕ → Reader (Tall Expr)) (stmt : Reader (Tall Stmt)) (n : ℕ
   header_read fixed t by_reference name k i j p u v a b c d e =
       let const_no = type_not (codes "const") refl refl t i j b in
       let no_and = sees_other row.Mark (codes "&") d refl in
-      rw (maybe_sees row.Reserved (codes "const") fixed k i a const_no, maybe_after row.Reserved (codes "const") fixed k i a const_no, type_specifier_read t i j (reference_no_word by_reference j p u c d) b,
-      maybe_sees row.Mark (codes "&") by_reference j p c no_and, maybe_after row.Mark (codes "&") by_reference j p c no_and, lexed_at row.Ident name d, expect_at row.Mark (codes ":") e.1) refl
+      rw (
+        maybe_sees row.Reserved (codes "const") fixed k i a const_no,
+        maybe_after row.Reserved (codes "const") fixed k i a const_no,
+        type_specifier_read t i j (reference_no_word by_reference j p u c d) b,
+        maybe_sees row.Mark (codes "&") by_reference j p c no_and,
+        maybe_after row.Mark (codes "&") by_reference j p c no_and,
+        lexed_at row.Ident name d,
+        expect_at row.Mark (codes ":") e.1,
+      ) refl
 
   -- ---- statements
 
@@ -1730,24 +1981,77 @@ module _ (sub : ℕ → Reader (Tall Expr)) (stmt : Reader (Tall Stmt)) (n : ℕ
   other_layer m le (Stmt-F.Print q [] c) from rest d w = absurd d.3
   other_layer m le (Stmt-F.Print q (x ∷ xs) c) from rest d w =
       let v = all_printed_read m le (length d.0) 0 [] x xs d.0 d.1 rest (omega arith) (omega arith) d.3 d.4 in
-      let lt : v.0 < 64 = omega (arith, v.1, le, small) in
-      (v.0 + 1, omega (arith, v.1), rw (sees_other row.Mark (codes "{") d.2.2 refl, row_at row.Reserved false d.2.2 refl, sees_at row.Ident (codes "std") d.2.2, next_at d.2.2, sees_at row.Mark (codes "::") d.2.3.1, next_at d.2.3.1,
-      sees_at row.Ident (codes "cout") d.2.4, within_at (codes "std") (codes "cout") q from d.2.0 d.2.1 d.0 d.2.2 d.2.3 d.2.4, v.2, expect_at row.Mark (codes ";") d.4, grows {A = Stmt} _ _ _ lt) refl)
+      let lt : v.0 < 64 = omega (arith, v.1, le, small) in (
+        v.0 + 1,
+        omega (arith, v.1),
+        rw (
+          sees_other row.Mark (codes "{") d.2.2 refl,
+          row_at row.Reserved false d.2.2 refl,
+          sees_at row.Ident (codes "std") d.2.2,
+          next_at d.2.2,
+          sees_at row.Mark (codes "::") d.2.3.1,
+          next_at d.2.3.1,
+          sees_at row.Ident (codes "cout") d.2.4,
+          within_at (codes "std") (codes "cout") q from d.2.0 d.2.1 d.0 d.2.2 d.2.3 d.2.4,
+          v.2,
+          expect_at row.Mark (codes ";") d.4,
+          grows {A = Stmt} _ _ _ lt,
+        ) refl,
+      )
   other_layer m le (Stmt-F.Try s b name c) from rest d w =
       let v = block_read sub stmt n small whole_stmt m (omega arith) b d.0 d.1 d.10 in
       let z = block_read sub stmt n small whole_stmt m (omega arith) c d.7 rest d.16.3 in
-      let lt : max v.0 z.0 < 64 = omega (arith, v.1, z.1, le, small) in
-      (max v.0 z.0 + 1, omega (arith, v.1, z.1), rw (sees_other row.Mark (codes "{") d.9 refl, row_at row.Reserved true d.9 refl, sees_other row.Reserved (codes "if") d.9 refl, sees_other row.Reserved (codes "break") d.9 refl,
-      sees_other row.Reserved (codes "continue") d.9 refl, sees_other row.Reserved (codes "return") d.9 refl, sees_other row.Reserved (codes "while") d.9 refl, sees_other row.Reserved (codes "do") d.9 refl, sees_other row.Reserved (codes "for") d.9 refl,
-      sees_at row.Reserved (codes "try") d.9, expect_at row.Reserved (codes "try") d.9, v.2, expect_at row.Reserved (codes "catch") d.11.1, expect_at row.Mark (codes "(") d.12.1, expect_at row.Reserved (codes "const") d.13.1,
-      within_at (codes "sycl") (codes "exception") d.8 d.4 d.14.0 d.14.1 d.5 d.14.2 d.14.3 d.14.4, expect_at row.Mark (codes "&") d.15.1, lexed_at row.Ident name d.16.1, expect_at row.Mark (codes ")") d.16.2.1, z.2, grows {A = Stmt} _ _ _ lt) refl)
+      let lt : max v.0 z.0 < 64 = omega (arith, v.1, z.1, le, small) in (
+        max v.0 z.0 + 1,
+        omega (arith, v.1, z.1),
+        rw (
+          sees_other row.Mark (codes "{") d.9 refl,
+          row_at row.Reserved true d.9 refl,
+          sees_other row.Reserved (codes "if") d.9 refl,
+          sees_other row.Reserved (codes "break") d.9 refl,
+          sees_other row.Reserved (codes "continue") d.9 refl,
+          sees_other row.Reserved (codes "return") d.9 refl,
+          sees_other row.Reserved (codes "while") d.9 refl,
+          sees_other row.Reserved (codes "do") d.9 refl,
+          sees_other row.Reserved (codes "for") d.9 refl,
+          sees_at row.Reserved (codes "try") d.9,
+          expect_at row.Reserved (codes "try") d.9,
+          v.2,
+          expect_at row.Reserved (codes "catch") d.11.1,
+          expect_at row.Mark (codes "(") d.12.1,
+          expect_at row.Reserved (codes "const") d.13.1,
+          within_at (codes "sycl") (codes "exception") d.8 d.4 d.14.0 d.14.1 d.5 d.14.2 d.14.3 d.14.4,
+          expect_at row.Mark (codes "&") d.15.1,
+          lexed_at row.Ident name d.16.1,
+          expect_at row.Mark (codes ")") d.16.2.1,
+          z.2,
+          grows {A = Stmt} _ _ _ lt,
+        ) refl,
+      )
   other_layer m le (Stmt-F.RangeFor s fixed t by_reference name range x) from rest d w =
       let a = whole_stmt m x d.7 rest le d.15.3 in
-      let lt : a.0 < 64 = omega (arith, a.1, le, small) in
-      (a.0 + 1, omega (arith, a.1), rw (sees_other row.Mark (codes "{") d.8 refl, row_at row.Reserved true d.8 refl, sees_other row.Reserved (codes "if") d.8 refl, sees_other row.Reserved (codes "break") d.8 refl,
-      sees_other row.Reserved (codes "continue") d.8 refl, sees_other row.Reserved (codes "return") d.8 refl, sees_other row.Reserved (codes "while") d.8 refl, sees_other row.Reserved (codes "do") d.8 refl, sees_at row.Reserved (codes "for") d.8,
-      expect_at row.Reserved (codes "for") d.8, expect_at row.Mark (codes "(") d.9.1, header_read fixed t by_reference name d.1 d.2 d.3 d.4 d.5 d.6 d.10 d.11 d.12 d.13 d.14, lexed_at row.Ident range d.15.1, expect_at row.Mark (codes ")") d.15.2.1, a.2,
-      grows {A = Stmt} _ _ _ lt) refl)
+      let lt : a.0 < 64 = omega (arith, a.1, le, small) in (
+        a.0 + 1,
+        omega (arith, a.1),
+        rw (
+          sees_other row.Mark (codes "{") d.8 refl,
+          row_at row.Reserved true d.8 refl,
+          sees_other row.Reserved (codes "if") d.8 refl,
+          sees_other row.Reserved (codes "break") d.8 refl,
+          sees_other row.Reserved (codes "continue") d.8 refl,
+          sees_other row.Reserved (codes "return") d.8 refl,
+          sees_other row.Reserved (codes "while") d.8 refl,
+          sees_other row.Reserved (codes "do") d.8 refl,
+          sees_at row.Reserved (codes "for") d.8,
+          expect_at row.Reserved (codes "for") d.8,
+          expect_at row.Mark (codes "(") d.9.1,
+          header_read fixed t by_reference name d.1 d.2 d.3 d.4 d.5 d.6 d.10 d.11 d.12 d.13 d.14,
+          lexed_at row.Ident range d.15.1,
+          expect_at row.Mark (codes ")") d.15.2.1,
+          a.2,
+          grows {A = Stmt} _ _ _ lt,
+        ) refl,
+      )
   other_layer m le _ from rest d w = absurd w
 
   -- ---- the header of a plain for is none of a range for
@@ -1800,8 +2104,13 @@ module _ (sub : ℕ → Reader (Tall Expr)) (stmt : Reader (Tall Stmt)) (n : ℕ
   unfolding st.range_header keyword one_word_of keyword_of fixed_width_of
   header_typed fixed t x from m k us a b c e =
       let const_no = type_not (codes "const") refl refl t m k b in
-      rw (maybe_after row.Reserved (codes "const") fixed from m a const_no, type_specifier_read t m k (row_at row.Reserved false c refl) b, after_none row.Mark (codes "&") k (sees_other row.Mark (codes "&") c refl),
-      lexed_at row.Ident x c, expect_none row.Mark (codes ":") us e) refl
+      rw (
+        maybe_after row.Reserved (codes "const") fixed from m a const_no,
+        type_specifier_read t m k (row_at row.Reserved false c refl) b,
+        after_none row.Mark (codes "&") k (sees_other row.Mark (codes "&") c refl),
+        lexed_at row.Ident x c,
+        expect_none row.Mark (codes ":") us e,
+      ) refl
 
   header_declared : (m : ℕ) (y : DeclarationLayer) (from rest : List Token) → DeclarationRule (Derives m) y from rest → st.range_header from ≡ None
   unfolding mark keyword identifier one_word_of keyword_of fixed_width_of
@@ -1841,10 +2150,31 @@ module _ (sub : ℕ → Reader (Tall Expr)) (stmt : Reader (Tall Stmt)) (n : ℕ
       let v = maybe_expr_read m le c d.2 d.3 d.4 d.10 d.11.1 in
       let f = maybe_full_read m le b d.4 d.5 d.6 d.12 d.13.1 in
       let z = whole_stmt m x d.6 rest le d.14 in
-      let lt : max (max i.1.0 v.0) (max f.0 z.0) < 64 = omega (arith, i.1.1, v.1, f.1, z.1, le, small) in
-      (max (max i.1.0 v.0) (max f.0 z.0) + 1, omega (arith, i.1.1, v.1, f.1, z.1), rw (sees_other row.Mark (codes "{") d.7 refl, row_at row.Reserved true d.7 refl, sees_other row.Reserved (codes "if") d.7 refl, sees_other row.Reserved (codes "break") d.7 refl,
-      sees_other row.Reserved (codes "continue") d.7 refl, sees_other row.Reserved (codes "return") d.7 refl, sees_other row.Reserved (codes "while") d.7 refl, sees_other row.Reserved (codes "do") d.7 refl, sees_at row.Reserved (codes "for") d.7,
-      expect_at row.Reserved (codes "for") d.7, expect_at row.Mark (codes "(") d.8.1, i.0, i.1.2, v.2, expect_at row.Mark (codes ";") d.11.1, f.2, expect_at row.Mark (codes ")") d.13.1, z.2, grows {A = Stmt} _ _ _ lt) refl)
+      let lt : max (max i.1.0 v.0) (max f.0 z.0) < 64 = omega (arith, i.1.1, v.1, f.1, z.1, le, small) in (
+        max (max i.1.0 v.0) (max f.0 z.0) + 1,
+        omega (arith, i.1.1, v.1, f.1, z.1),
+        rw (
+          sees_other row.Mark (codes "{") d.7 refl,
+          row_at row.Reserved true d.7 refl,
+          sees_other row.Reserved (codes "if") d.7 refl,
+          sees_other row.Reserved (codes "break") d.7 refl,
+          sees_other row.Reserved (codes "continue") d.7 refl,
+          sees_other row.Reserved (codes "return") d.7 refl,
+          sees_other row.Reserved (codes "while") d.7 refl,
+          sees_other row.Reserved (codes "do") d.7 refl,
+          sees_at row.Reserved (codes "for") d.7,
+          expect_at row.Reserved (codes "for") d.7,
+          expect_at row.Mark (codes "(") d.8.1,
+          i.0,
+          i.1.2,
+          v.2,
+          expect_at row.Mark (codes ";") d.11.1,
+          f.2,
+          expect_at row.Mark (codes ")") d.13.1,
+          z.2,
+          grows {A = Stmt} _ _ _ lt,
+        ) refl,
+      )
 
   compound_read : (m : ℕ) → m ≤ n → (b : Block) (from rest : List Token) → StmtRule (Derives m) (Stmt-F.Compound b) from rest → StmtAs m (Stmt-F.Compound b) from rest
   unfolding st.one_stmt st.compound Derives mark

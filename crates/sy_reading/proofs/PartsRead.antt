@@ -1,8 +1,7 @@
 -- Types and parts that stand there are read.
 use Prim.Native.String.{String}
-use Rattle.std.proofs.Common.{◌≡◌, ℕ, suc, ◌≤◌, ◌<◌, if◌then◌else◌, Bool, true, false, cond, ◌&&◌, List, [], ◌∷◌, length, inl, inr, Option, Some, None, IsTrue, refl, sym, ap, ◌∙◌, subst, arith, codes}
+use Rattle.std.proofs.Common.{◌≡◌, ℕ, suc, ◌≤◌, Bool, true, false, cond, ◌&&◌, List, [], ◌∷◌, length, inl, inr, Option, Some, None, refl, sym, ap, ◌∙◌, arith, codes}
 use Rattle.std.specs.Str.{bytes_eq}
-use Rattle.sy_lex.specs.declared.Row.{Row}
 use Rattle.sy_lex.specs.declared.Row.TheVariants as row
 use Rattle.sy_lex.specs.declared.Token.{Token}
 use Rattle.sy_lex.specs.declared.Word.{Word}
@@ -28,14 +27,14 @@ use Rattle.sy_tree.specs.declared.parts.TemplateArgument.{TemplateArgument}
 use Rattle.sy_tree.specs.declared.parts.TemplateArgument.TheVariants as template
 use Rattle.sy_tree.specs.declared.parts.TypeSpecifier.{TypeSpecifier}
 use Rattle.sy_tree.specs.declared.parts.TypeSpecifier.TheVariants as specifier
-use Rattle.sy_tree.specs.Lists.{Rule, Maybe, Optional, MaybeListed}
+use Rattle.sy_tree.specs.Lists.{Maybe, Optional, MaybeListed}
 use Rattle.sy_tree.specs.Types.{Integral, OneWordIntegral, TypeSpecified, ConstSpecified, Dimensions, CommaDimensions, Elements, Object, Captured, LambdaParameterTyped, OneLambdaParameter, LambdaParameters, OneTemplateArgument, TemplateArguments}
 use Rattle.sy_tree.specs.Words.{At, Sees, Lexed, Sycl, takes_template_argument, identifier, Spelled, SpelledAs, spellings, mark, keyword, opening, closing}
-use Rattle.sy_reading.specs.Input.{Reader, Tall, pure, next, is_word, expect, lexed, sees, sees_row, sees_namespace, after, eat, named, within, qualified, maybe_listed}
+use Rattle.sy_reading.specs.Input.{next, is_word, sees, sees_row, sees_namespace, named, maybe_listed}
 use Rattle.sy_reading.specs.Parts as r
-use Rattle.sy_reading.specs.Tables.{fixed_width_of, keyword_of, one_word_of, plain_object_of, or_else}
+use Rattle.sy_reading.specs.Tables.{fixed_width_of, keyword_of, one_word_of, plain_object_of}
 use Rattle.sy_reading.proofs.Steps.{word, and_both, is_that}
-use Rattle.sy_reading.proofs.ReadSteps.{same_text, sees_at, next_at, expect_at, sees_other, row_at, no_row, lexed_at, after_none, after_at, maybe_sees, maybe_after, named_at, within_at, at_length, ReadsAs, all_listed_read, maybe_listed_read}
+use Rattle.sy_reading.proofs.ReadSteps.{sees_at, next_at, expect_at, sees_other, row_at, no_row, lexed_at, after_none, after_at, maybe_sees, maybe_after, named_at, within_at, at_length, ReadsAs, maybe_listed_read}
 
 -- ---- brackets
 
@@ -374,8 +373,12 @@ comma_or_end (Some x) from m rest h g = row_at row.Reserved false h.1.1 refl
 elements_read : (x : ElementArguments) (from rest : List Token) → Elements x from rest → r.elements from ≡ Some (x, rest)
 unfolding r.elements mark
 elements_read x from rest h =
-    rw (expect_at row.Mark (codes "<") h.3.1, integral_read x.element h.0 h.1 (comma_or_end x.dimensions h.1 h.2 rest h.5 h.6) h.4,
-    comma_dimensions_read x.dimensions h.1 h.2 (sees_other row.Mark (codes ",") h.6.1 refl) h.5, expect_at row.Mark (codes ">") h.6.1) refl
+    rw (
+      expect_at row.Mark (codes "<") h.3.1,
+      integral_read x.element h.0 h.1 (comma_or_end x.dimensions h.1 h.2 rest h.5 h.6) h.4,
+      comma_dimensions_read x.dimensions h.1 h.2 (sees_other row.Mark (codes ",") h.6.1 refl) h.5,
+      expect_at row.Mark (codes ">") h.6.1,
+    ) refl
 
 maybe_elements_read : (x : Option ElementArguments) (from rest : List Token) → sees row.Mark (codes "<") rest ≡ false → Optional Elements x from rest → r.maybe_elements from ≡ Some (x, rest)
 unfolding r.maybe_elements mark

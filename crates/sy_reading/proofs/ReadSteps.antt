@@ -1,5 +1,5 @@
 -- What stands in the grammar is read: tokens, names, and lists.
-use Rattle.std.proofs.Common.{◌≡◌, ℕ, zero, suc, ◌+◌, ◌≤◌, ◌<◌, max, nat_lt, if◌then◌else◌, Bool, true, false, cond, ◌&&◌, List, [], ◌∷◌, ◌++◌, length, Option, Some, None, refl, sym, ap, ◌∙◌, subst, arith, append_assoc, lt-ltb, length-drop, codes}
+use Rattle.std.proofs.Common.{◌≡◌, ℕ, zero, suc, ◌+◌, ◌≤◌, ◌<◌, max, nat_lt, Bool, true, false, List, [], ◌∷◌, ◌++◌, length, Option, Some, refl, ap, ◌∙◌, arith, append_assoc, lt-ltb, length-drop, codes}
 use Rattle.std.proofs.lemmas.Slice.Eq.{bytes_eq-Decides}
 use Rattle.std.specs.Str.{bytes_eq}
 use Rattle.sy_lex.specs.declared.Row.{Row}
@@ -13,7 +13,7 @@ use Rattle.sy_tree.specs.Grammar.{Passes}
 use Rattle.sy_tree.specs.Lists.{Rule, Maybe, Listed, MaybeListed}
 use Rattle.sy_tree.specs.Qualification.{same_row}
 use Rattle.sy_tree.specs.Words.{At, Sees, Lexed, mark}
-use Rattle.sy_reading.specs.Input.{Reader, Tall, pure, next, is_word, sees, sees_row, expect, advance, lexed, after, grown, listed, all_listed, maybe_listed, named, within}
+use Rattle.sy_reading.specs.Input.{Reader, Tall, next, is_word, sees, sees_row, expect, lexed, after, grown, listed, all_listed, maybe_listed, named, within}
 use Rattle.sy_reading.proofs.Steps.{word}
 
 -- ---- words

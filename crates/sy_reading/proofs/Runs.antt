@@ -1,14 +1,12 @@
 -- Each run of tokens that is an expression or a block is what is read there.
-use Rattle.std.proofs.Common.{◌≡◌, ℕ, zero, suc, ◌≤◌, ◌<◌, Bool, true, false, ◌&&◌, ◌||◌, List, [], ◌∷◌, drop, Some, refl, sym, ap, ◌∙◌, arith}
+use Rattle.std.proofs.Common.{◌≡◌, ℕ, zero, suc, ◌<◌, Bool, true, false, ◌&&◌, ◌||◌, List, [], ◌∷◌, drop, refl, ap, ◌∙◌, arith}
 use Rattle.std.proofs.lemmas.Slice.Eq.{bytes_eq-Decides}
 use Rattle.std.specs.List.{list_any}
 use Rattle.std.specs.Str.{bytes_eq}
 use Rattle.sy_lex.specs.declared.Row.TheVariants as row
 use Rattle.sy_lex.specs.declared.Token.{Token}
-use Rattle.sy_tree.specs.declared.tree.Block.{Block}
-use Rattle.sy_tree.specs.declared.tree.Expr.{Expr}
 use Rattle.sy_tree.specs.Qualification.{same_row}
-use Rattle.sy_tree.specs.Units.{IsRun, IsBlock, ends, enders}
+use Rattle.sy_tree.specs.Units.{ends, enders}
 use Rattle.sy_reading.specs.Exprs.{binds, binds_by}
 use Rattle.sy_reading.specs.Input.{mark_text}
 use Rattle.sy_reading.specs.Laws.{RunsAreRead, BlocksAreRead}
