@@ -1,6 +1,12 @@
 pub mod Answer
+pub mod Complete
+pub mod ExprRead
 pub mod ExprSound
+pub mod PartsRead
 pub mod PartsSound
+pub mod ReadSteps
+pub mod Runs
 pub mod Sound
 pub mod Steps
 pub mod StmtSound
+pub mod OneTree

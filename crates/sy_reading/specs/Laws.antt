@@ -16,3 +16,21 @@ ReadExprsAreRuns = (tokens : List Token) (at : ℕ) (x : Tall Expr) (rest : List
 abbrev pub ReadBlocksAreBlocks : Type 0
 ReadBlocksAreBlocks = (tokens : List Token) (at : ℕ) (b : Tall Block) (rest : List Token) → at ≤ length tokens →
     read_block 64 (drop at tokens) ≡ Some (b, rest) → IsBlock tokens at b.0 (length tokens - length rest)
+
+-- Each run of tokens that is an expression of the grammar is what is read there, up to its end.
+abbrev pub RunsAreRead : Type 0
+RunsAreRead = (tokens : List Token) (at : ℕ) (x : Expr) (end : ℕ) → IsRun tokens at x end →
+    (height : ℕ) × (read_expr 64 1 (drop at tokens) ≡ Some ((x, height), drop end tokens))
+
+-- Each run of tokens that is a block of the grammar is what is read there, up to its end.
+abbrev pub BlocksAreRead : Type 0
+BlocksAreRead = (tokens : List Token) (at : ℕ) (b : Block) (end : ℕ) → IsBlock tokens at b end →
+    (height : ℕ) × (read_block 64 (drop at tokens) ≡ Some ((b, height), drop end tokens))
+
+-- From one place on one run of tokens at most is an expression, of one tree.
+abbrev pub OneExpr : Type 0
+OneExpr = (tokens : List Token) (at : ℕ) (x y : Expr) (end other : ℕ) → IsRun tokens at x end → IsRun tokens at y other → (x ≡ y) × (end ≡ other)
+
+-- From one place on one run of tokens at most is a block, of one tree.
+abbrev pub OneBlock : Type 0
+OneBlock = (tokens : List Token) (at : ℕ) (x y : Block) (end other : ℕ) → IsBlock tokens at x end → IsBlock tokens at y other → (x ≡ y) × (end ≡ other)
