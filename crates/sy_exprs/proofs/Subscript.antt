@@ -20,13 +20,13 @@ closes a s x (Some p) = refl
 
 holds : (a : Tall Expr) (s : Spot) (o : Option (Tall Expr × List Token))
     → and_then o (λ x. expect row.Mark (codes "]") >>= (λ e. node a (x, (s, e))))
-      ≡ and_then (and_then o (λ x. expect row.Mark (codes "]") >>= (λ e. pure (x, (s, e))))) (node a)
+    ≡ and_then (and_then o (λ x. expect row.Mark (codes "]") >>= (λ e. pure (x, (s, e))))) (node a)
 holds a s None = refl
 holds a s (Some p) = closes a s p.0 (expect row.Mark (codes "]") p.1)
 
 opens : (expr : ℕ → Reader (Tall Expr)) (a : Tall Expr) (o : Option (Spot × List Token))
     → and_then o (λ s. expr 1 >>= (λ x. expect row.Mark (codes "]") >>= (λ e. node a (x, (s, e)))))
-      ≡ and_then (and_then o (λ s. expr 1 >>= (λ x. expect row.Mark (codes "]") >>= (λ e. pure (x, (s, e)))))) (node a)
+    ≡ and_then (and_then o (λ s. expr 1 >>= (λ x. expect row.Mark (codes "]") >>= (λ e. pure (x, (s, e)))))) (node a)
 opens expr a None = refl
 opens expr a (Some p) = holds a p.0 (expr 1 p.1)
 

@@ -36,7 +36,11 @@ impl<
     }
 
     #[tactic(auto, unfolding(sy_reading::specs::Input::maybe_listed))]
-    pub(crate) fn maybe_exprs(&self, tokens: &mut Tokens<'_>, close: &[u8]) -> Result<Tall<Items<Expr>>, Stop>
+    pub(crate) fn maybe_exprs(
+        &self,
+        tokens: &mut Tokens<'_>,
+        close: &[u8],
+    ) -> Result<Tall<Items<Expr>>, Stop>
         requires { Nests self.now.depth (E.pre self.now.expr) (E.post self.now.expr) (S.pre self.now.stmt) (S.post self.now.stmt) }
         ensures { Reads (input.maybe_listed (read_expr self.now.depth 1) close.now tokens.old.rest.now) result tokens.new.rest.now }
     {
@@ -73,6 +77,7 @@ impl<
         }
     }
 
+    /// One argument or more, separated by commas.
     pub fn argument_list(&self, tokens: &mut Tokens<'_>) -> Result<Tall<Items<Argument>>, Stop>
         requires { Nests self.now.depth (E.pre self.now.expr) (E.post self.now.expr) (S.pre self.now.stmt) (S.post self.now.stmt) }
         ensures { Reads (input.listed (exprs.one_argument (read_expr self.now.depth) (read_stmt self.now.depth)) (length tokens.old.rest.now) [] 0 tokens.old.rest.now) result tokens.new.rest.now }
@@ -90,8 +95,13 @@ impl<
         Err(Stop::Grammar)
     }
 
+    /// Arguments or none, up to the mark that closes them, which isn't taken.
     #[tactic(auto, unfolding(sy_reading::specs::Exprs::arguments, sy_reading::specs::Input::maybe_listed))]
-    pub fn arguments(&self, tokens: &mut Tokens<'_>, close: &[u8]) -> Result<Tall<Items<Argument>>, Stop>
+    pub fn arguments(
+        &self,
+        tokens: &mut Tokens<'_>,
+        close: &[u8],
+    ) -> Result<Tall<Items<Argument>>, Stop>
         requires { Nests self.now.depth (E.pre self.now.expr) (E.post self.now.expr) (S.pre self.now.stmt) (S.post self.now.stmt) }
         ensures { Reads (exprs.arguments (read_expr self.now.depth) (read_stmt self.now.depth) close.now tokens.old.rest.now) result tokens.new.rest.now }
     {

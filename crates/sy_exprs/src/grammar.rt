@@ -25,6 +25,7 @@ impl<
     E: Fn(&mut Tokens<'_>, usize, u8) -> Result<Tall<Expr>, Stop>,
     S: Fn(&mut Tokens<'_>, usize) -> Result<Tall<Stmt>, Stop>,
 > Grammar<E, S> {
+    /// An expression below, whose loosest operator is of that level or tighter.
     pub fn sub_expr(&self, tokens: &mut Tokens<'_>, least: u8) -> Result<Tall<Expr>, Stop>
         requires { Nests self.now.depth (E.pre self.now.expr) (E.post self.now.expr) (S.pre self.now.stmt) (S.post self.now.stmt) }
         ensures { Reads (read_expr self.now.depth least tokens.old.rest.now) result tokens.new.rest.now }
@@ -32,6 +33,7 @@ impl<
         (self.expr)(tokens, self.depth, least)
     }
 
+    /// A statement below.
     pub fn sub_stmt(&self, tokens: &mut Tokens<'_>) -> Result<Tall<Stmt>, Stop>
         requires { Nests self.now.depth (E.pre self.now.expr) (E.post self.now.expr) (S.pre self.now.stmt) (S.post self.now.stmt) }
         ensures { Reads (read_stmt self.now.depth tokens.old.rest.now) result tokens.new.rest.now }

@@ -33,6 +33,7 @@ impl<
         Err(Stop::Grammar)
     }
 
+    /// Statements in braces.
     #[tactic(auto, unfolding(sy_reading::specs::Exprs::one_block))]
     pub fn one_block(&self, tokens: &mut Tokens<'_>) -> Result<Tall<Block>, Stop>
         requires { Nests self.now.depth (E.pre self.now.expr) (E.post self.now.expr) (S.pre self.now.stmt) (S.post self.now.stmt) }
@@ -49,6 +50,7 @@ impl<
         grown(tokens, block, height)
     }
 
+    /// Captures in brackets, parameters or none, and a block.
     #[tactic(auto, unfolding(sy_reading::specs::Exprs::one_lambda))]
     pub fn one_lambda(&self, tokens: &mut Tokens<'_>) -> Result<Tall<Lambda>, Stop>
         requires { Nests self.now.depth (E.pre self.now.expr) (E.post self.now.expr) (S.pre self.now.stmt) (S.post self.now.stmt) }

@@ -17,21 +17,39 @@ fn pair(alloc: Global, first: Expr, second: Expr) -> Result<(Boxed<Expr>, Boxed<
     Ok((first, second))
 }
 
-pub fn subscript(alloc: Global, object: Expr, spot: Spot, index: Expr, close: Spot) -> Result<Expr, AllocError>
+pub fn subscript(
+    alloc: Global,
+    object: Expr,
+    spot: Spot,
+    index: Expr,
+    close: Spot,
+) -> Result<Expr, AllocError>
     ensures { IfOk result (λ x. x ≡ tree.Subscript object spot index close) }
 {
     let (object, index) = pair(alloc, object, index)?;
     Ok(Expr::Subscript(object, spot, index, close))
 }
 
-pub fn binary(alloc: Global, left: Expr, spot: Spot, operator: Operator, right: Expr) -> Result<Expr, AllocError>
+pub fn binary(
+    alloc: Global,
+    left: Expr,
+    spot: Spot,
+    operator: Operator,
+    right: Expr,
+) -> Result<Expr, AllocError>
     ensures { IfOk result (λ x. x ≡ tree.Binary left spot operator right) }
 {
     let (left, right) = pair(alloc, left, right)?;
     Ok(Expr::Binary(left, spot, operator, right))
 }
 
-pub fn conditional(alloc: Global, test: Expr, spot: Spot, yes: Expr, no: Expr) -> Result<Expr, AllocError>
+pub fn conditional(
+    alloc: Global,
+    test: Expr,
+    spot: Spot,
+    yes: Expr,
+    no: Expr,
+) -> Result<Expr, AllocError>
     ensures { IfOk result (λ x. x ≡ tree.Conditional test spot yes no) }
 {
     let (test, yes) = pair(alloc, test, yes)?;

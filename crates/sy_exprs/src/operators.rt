@@ -9,7 +9,9 @@ ghost use Rattle.sy_reading.specs.Reading.{read_expr, read_stmt};
 use crate::grammar::{Grammar, TURNS};
 use crate::nodes;
 use sqlite_items::Boxed;
-use sy_cursor::{Stop, Tall, Tokens, grown, integral, level, operator_of, sees_type, step_of, unary_of};
+use sy_cursor::{
+    Stop, Tall, Tokens, grown, integral, level, operator_of, sees_type, step_of, unary_of,
+};
 use sy_lex::Row;
 use sy_num::UnOp;
 use sy_tree::{Expr, Operator, Step, Stmt};
@@ -124,7 +126,12 @@ impl<
     }
 
     #[tactic(auto, unfolding(sy_reading::specs::Exprs::binary))]
-    fn binary(&self, tokens: &mut Tokens<'_>, operator: Operator, left: Tall<Expr>) -> Result<Tall<Expr>, Stop>
+    fn binary(
+        &self,
+        tokens: &mut Tokens<'_>,
+        operator: Operator,
+        left: Tall<Expr>,
+    ) -> Result<Tall<Expr>, Stop>
         requires { Nests self.now.depth (E.pre self.now.expr) (E.post self.now.expr) (S.pre self.now.stmt) (S.post self.now.stmt) }
         ensures { Reads (exprs.binary (read_expr self.now.depth) (read_stmt self.now.depth) operator left tokens.old.rest.now) result tokens.new.rest.now }
     {
@@ -163,7 +170,12 @@ impl<
         }
     }
 
-    fn climb(&self, tokens: &mut Tokens<'_>, least: u8, mut left: Tall<Expr>) -> Result<Tall<Expr>, Stop>
+    fn climb(
+        &self,
+        tokens: &mut Tokens<'_>,
+        least: u8,
+        mut left: Tall<Expr>,
+    ) -> Result<Tall<Expr>, Stop>
         requires { Nests self.now.depth (E.pre self.now.expr) (E.post self.now.expr) (S.pre self.now.stmt) (S.post self.now.stmt) }
         ensures { Reads (exprs.climb (read_expr self.now.depth) (read_stmt self.now.depth) 65 least left tokens.old.rest.now) result tokens.new.rest.now }
     {
@@ -176,6 +188,8 @@ impl<
         Err(Stop::Grammar)
     }
 
+    /// An expression whose loosest operator is of that level or tighter. Level 1 is any expression, 2 to 11 are those of the
+    /// operators with two operands, and 12 is a unary expression.
     #[tactic(auto, unfolding(sy_reading::specs::Exprs::chain))]
     pub fn chain(&self, tokens: &mut Tokens<'_>, least: u8) -> Result<Tall<Expr>, Stop>
         requires { Nests self.now.depth (E.pre self.now.expr) (E.post self.now.expr) (S.pre self.now.stmt) (S.post self.now.stmt) }

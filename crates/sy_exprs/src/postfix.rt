@@ -6,9 +6,9 @@ ghost use Rattle.sy_exprs.specs.Nests.{Nests};
 ghost use Rattle.sy_reading.specs.Exprs as exprs;
 ghost use Rattle.sy_reading.specs.Reading.{read_expr, read_stmt};
 
-use crate::operators::binds;
 use crate::grammar::{Grammar, TURNS};
 use crate::nodes;
+use crate::operators::binds;
 use sqlite_items::Boxed;
 use sy_cursor::{Stop, Tall, Tokens, grown, maybe_template_argument, step_of};
 use sy_lex::Row;

@@ -7,7 +7,10 @@ ghost use Rattle.sy_reading.specs.Reading.{read_expr, read_stmt};
 
 use crate::grammar::Grammar;
 use sqlite_items::Boxed;
-use sy_cursor::{Stop, Tall, Tokens, closed, closing_text, empty_brackets, function_of, grown, integral, object_by, object_of, one_word, opened, qualified, tag_of};
+use sy_cursor::{
+    Stop, Tall, Tokens, closed, closing_text, empty_brackets, function_of, grown, integral,
+    object_by, object_of, one_word, opened, qualified, tag_of,
+};
 use sy_lex::Row;
 use sy_tree::{Expr, FunctionObject, IntegerType, Lexeme, LibraryFunction, Qualified, Stmt};
 
@@ -95,7 +98,12 @@ impl<
     }
 
     #[tactic(auto, unfolding(sy_reading::specs::Exprs::construct))]
-    fn construct(&self, tokens: &mut Tokens<'_>, name: Qualified, text: &[u8]) -> Result<Tall<Expr>, Stop>
+    fn construct(
+        &self,
+        tokens: &mut Tokens<'_>,
+        name: Qualified,
+        text: &[u8],
+    ) -> Result<Tall<Expr>, Stop>
         requires { Nests self.now.depth (E.pre self.now.expr) (E.post self.now.expr) (S.pre self.now.stmt) (S.post self.now.stmt) }
         ensures { Reads (exprs.construct (read_expr self.now.depth) (read_stmt self.now.depth) name text.now tokens.old.rest.now) result tokens.new.rest.now }
     {
@@ -120,7 +128,11 @@ impl<
     }
 
     #[tactic(auto, unfolding(sy_reading::specs::Exprs::initialize_to_identity))]
-    fn initialize_to_identity(&self, tokens: &mut Tokens<'_>, name: Qualified) -> Result<Tall<Expr>, Stop>
+    fn initialize_to_identity(
+        &self,
+        tokens: &mut Tokens<'_>,
+        name: Qualified,
+    ) -> Result<Tall<Expr>, Stop>
         requires { Nests self.now.depth (E.pre self.now.expr) (E.post self.now.expr) (S.pre self.now.stmt) (S.post self.now.stmt) }
         ensures { Reads (exprs.initialize_to_identity (read_expr self.now.depth) (read_stmt self.now.depth) name tokens.old.rest.now) result tokens.new.rest.now }
     {
@@ -178,7 +190,12 @@ impl<
     }
 
     #[tactic(auto, unfolding(sy_reading::specs::Exprs::function_object))]
-    fn function_object(&self, tokens: &mut Tokens<'_>, name: Qualified, function: FunctionObject) -> Result<Tall<Expr>, Stop>
+    fn function_object(
+        &self,
+        tokens: &mut Tokens<'_>,
+        name: Qualified,
+        function: FunctionObject,
+    ) -> Result<Tall<Expr>, Stop>
         requires { Nests self.now.depth (E.pre self.now.expr) (E.post self.now.expr) (S.pre self.now.stmt) (S.post self.now.stmt) }
         ensures { Reads (exprs.function_object (read_expr self.now.depth) (read_stmt self.now.depth) name function tokens.old.rest.now) result tokens.new.rest.now }
     {
@@ -191,7 +208,12 @@ impl<
     }
 
     #[tactic(auto, unfolding(sy_reading::specs::Exprs::library_call))]
-    fn library_call(&self, tokens: &mut Tokens<'_>, name: Qualified, function: LibraryFunction) -> Result<Tall<Expr>, Stop>
+    fn library_call(
+        &self,
+        tokens: &mut Tokens<'_>,
+        name: Qualified,
+        function: LibraryFunction,
+    ) -> Result<Tall<Expr>, Stop>
         requires { Nests self.now.depth (E.pre self.now.expr) (E.post self.now.expr) (S.pre self.now.stmt) (S.post self.now.stmt) }
         ensures { Reads (exprs.library_call (read_expr self.now.depth) (read_stmt self.now.depth) name function tokens.old.rest.now) result tokens.new.rest.now }
     {
@@ -204,7 +226,12 @@ impl<
 
     /// A name of the library that is no access tag, no function object and no function with a value.
     #[tactic(auto, unfolding(sy_reading::specs::Exprs::other_name))]
-    fn other_name(&self, tokens: &mut Tokens<'_>, name: Qualified, text: &[u8]) -> Result<Tall<Expr>, Stop>
+    fn other_name(
+        &self,
+        tokens: &mut Tokens<'_>,
+        name: Qualified,
+        text: &[u8],
+    ) -> Result<Tall<Expr>, Stop>
         requires { Nests self.now.depth (E.pre self.now.expr) (E.post self.now.expr) (S.pre self.now.stmt) (S.post self.now.stmt) }
         ensures { Reads (exprs.other_name (read_expr self.now.depth) (read_stmt self.now.depth) name text.now tokens.old.rest.now) result tokens.new.rest.now }
     {
@@ -220,7 +247,12 @@ impl<
     }
 
     #[tactic(auto, unfolding(sy_reading::specs::Exprs::library_by))]
-    fn library_by(&self, tokens: &mut Tokens<'_>, name: Qualified, text: &[u8]) -> Result<Tall<Expr>, Stop>
+    fn library_by(
+        &self,
+        tokens: &mut Tokens<'_>,
+        name: Qualified,
+        text: &[u8],
+    ) -> Result<Tall<Expr>, Stop>
         requires { Nests self.now.depth (E.pre self.now.expr) (E.post self.now.expr) (S.pre self.now.stmt) (S.post self.now.stmt) }
         ensures { Reads (exprs.library_by (read_expr self.now.depth) (read_stmt self.now.depth) name text.now tokens.old.rest.now) result tokens.new.rest.now }
     {

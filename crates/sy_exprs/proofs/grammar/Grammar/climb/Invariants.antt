@@ -1,4 +1,4 @@
-use Rattle.std.proofs.Common.{◌≡◌, ◌-◌, []}
+use Rattle.std.proofs.Common.{◌≡◌, ◌-◌}
 use Rattle.sy_reading.specs.Exprs.{climb}
 use Rattle.sy_reading.specs.Reading.{read_expr, read_stmt}
 use Rattle.sy_exprs.proofs.grammar.Grammar.climb.Given as goal

@@ -1,4 +1,4 @@
-use Rattle.std.proofs.Common.{◌≡◌, ◌-◌, []}
+use Rattle.std.proofs.Common.{◌≡◌, ◌-◌}
 use Rattle.sy_reading.specs.Exprs.{postfixes}
 use Rattle.sy_reading.specs.Reading.{read_expr, read_stmt}
 use Rattle.sy_exprs.proofs.grammar.Grammar.postfixes.Given as goal
