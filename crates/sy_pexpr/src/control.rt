@@ -32,6 +32,26 @@ impl<
     E: Fn(&mut Tokens<'_>, usize, u8) -> Result<Tall<Expr>, Stop>,
     S: Fn(&mut Tokens<'_>, usize) -> Result<Tall<Stmt>, Stop>,
 > Statements<E, S> {
+    /// The statement that a branch or a loop holds, in a box.
+    pub fn body(&self, tokens: &mut Tokens<'_>) -> Result<Tall<Boxed<Stmt>>, Stop>
+        requires { Nests self.now.below.depth (E.pre self.now.below.expr) (E.post self.now.below.expr) (S.pre self.now.below.stmt) (S.post self.now.below.stmt) }
+        ensures { Reads (read_stmt self.now.below.depth tokens.old.rest.now) result tokens.new.rest.now }
+    {
+        let (tree, height) = self.below.sub_stmt(tokens)?;
+        let body = Boxed::new(tokens.alloc, tree)?;
+        Ok((body, height))
+    }
+
+    /// What a `for` begins with, in a box.
+    pub fn init(&self, tokens: &mut Tokens<'_>) -> Result<Tall<Boxed<Stmt>>, Stop>
+        requires { Nests self.now.below.depth (E.pre self.now.below.expr) (E.post self.now.below.expr) (S.pre self.now.below.stmt) (S.post self.now.below.stmt) }
+        ensures { Reads (stmts.simple (read_expr self.now.below.depth) (read_stmt self.now.below.depth) tokens.old.rest.now) result tokens.new.rest.now }
+    {
+        let (tree, height) = self.simple(tokens)?;
+        let init = Boxed::new(tokens.alloc, tree)?;
+        Ok((init, height))
+    }
+
     #[tactic(auto, unfolding(sy_reading::specs::Stmts::condition))]
     pub fn condition(&self, tokens: &mut Tokens<'_>) -> Result<Tall<Expr>, Stop>
         requires { Nests self.now.below.depth (E.pre self.now.below.expr) (E.post self.now.below.expr) (S.pre self.now.below.stmt) (S.post self.now.below.stmt) }
@@ -49,28 +69,20 @@ impl<
         tokens: &mut Tokens<'_>,
         spot: Spot,
         test: Tall<Expr>,
-        yes: Tall<Stmt>,
+        yes: Tall<Boxed<Stmt>>,
     ) -> Result<Tall<Stmt>, Stop>
         requires { Nests self.now.below.depth (E.pre self.now.below.expr) (E.post self.now.below.expr) (S.pre self.now.below.stmt) (S.post self.now.below.stmt) }
         ensures { Reads (stmts.otherwise (read_expr self.now.below.depth) (read_stmt self.now.below.depth) spot test yes tokens.old.rest.now) result tokens.new.rest.now }
     {
         let (test, test_height) = test;
         let (yes, yes_height) = yes;
-        let yes = Boxed::new(tokens.alloc, yes)?;
         if tokens.eat(Row::Reserved, b"else") {
-            let (no, no_height) = self.below.sub_stmt(tokens)?;
-            let no = Boxed::new(tokens.alloc, no)?;
-            grown(
-                tokens,
-                Stmt::If(spot, test, yes, Some(no)),
-                test_height.max(yes_height.max(no_height)),
-            )
+            let (no, no_height) = self.body(tokens)?;
+            let tree = Stmt::If(spot, test, yes, Some(no));
+            grown(tokens, tree, test_height.max(yes_height.max(no_height)))
         } else {
-            grown(
-                tokens,
-                Stmt::If(spot, test, yes, None),
-                test_height.max(yes_height),
-            )
+            let tree = Stmt::If(spot, test, yes, None);
+            grown(tokens, tree, test_height.max(yes_height))
         }
     }
 
@@ -81,7 +93,7 @@ impl<
     {
         let spot = tokens.expect(Row::Reserved, b"if")?;
         let test = self.condition(tokens)?;
-        let yes = self.below.sub_stmt(tokens)?;
+        let yes = self.body(tokens)?;
         self.otherwise(tokens, spot, test, yes)
     }
 
@@ -92,8 +104,7 @@ impl<
     {
         let spot = tokens.expect(Row::Reserved, b"while")?;
         let (test, height) = self.condition(tokens)?;
-        let (body, tall) = self.below.sub_stmt(tokens)?;
-        let body = Boxed::new(tokens.alloc, body)?;
+        let (body, tall) = self.body(tokens)?;
         grown(tokens, Stmt::While(spot, test, body), height.max(tall))
     }
 
@@ -103,11 +114,10 @@ impl<
         ensures { Reads (stmts.do_loop (read_expr self.now.below.depth) (read_stmt self.now.below.depth) tokens.old.rest.now) result tokens.new.rest.now }
     {
         let spot = tokens.expect(Row::Reserved, b"do")?;
-        let (body, tall) = self.below.sub_stmt(tokens)?;
+        let (body, tall) = self.body(tokens)?;
         tokens.expect(Row::Reserved, b"while")?;
         let (test, height) = self.condition(tokens)?;
         let end = tokens.expect(Row::Mark, b";")?;
-        let body = Boxed::new(tokens.alloc, body)?;
         grown(tokens, Stmt::Do(spot, body, test, end), tall.max(height))
     }
 
@@ -124,8 +134,7 @@ impl<
         let ((fixed, element), (by_reference, name)) = header;
         let range = tokens.lexed(Row::Ident)?;
         tokens.expect(Row::Mark, b")")?;
-        let (body, height) = self.below.sub_stmt(tokens)?;
-        let body = Boxed::new(tokens.alloc, body)?;
+        let (body, height) = self.body(tokens)?;
         let tree = Stmt::RangeFor(spot, fixed, element, by_reference, name, range, body);
         grown(tokens, tree, height)
     }
@@ -135,14 +144,12 @@ impl<
         requires { Nests self.now.below.depth (E.pre self.now.below.expr) (E.post self.now.below.expr) (S.pre self.now.below.stmt) (S.post self.now.below.stmt) }
         ensures { Reads (stmts.plain_for (read_expr self.now.below.depth) (read_stmt self.now.below.depth) spot tokens.old.rest.now) result tokens.new.rest.now }
     {
-        let (init, init_height) = self.simple(tokens)?;
+        let (init, init_height) = self.init(tokens)?;
         let (test, test_height) = self.maybe_expr(tokens)?;
         tokens.expect(Row::Mark, b";")?;
         let (step, step_height) = self.maybe_full(tokens)?;
         tokens.expect(Row::Mark, b")")?;
-        let (body, body_height) = self.below.sub_stmt(tokens)?;
-        let init = Boxed::new(tokens.alloc, init)?;
-        let body = Boxed::new(tokens.alloc, body)?;
+        let (body, body_height) = self.body(tokens)?;
         let tree = Stmt::For(spot, init, test, step, body);
         let height = init_height
             .max(test_height)

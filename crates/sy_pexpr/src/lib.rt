@@ -124,3 +124,7 @@ pub fn block(alloc: Global, toks: &[Token], at: usize) -> Result<(Block, usize),
         Err(Stop::Memory) => Err(FrontStop::Memory),
     }
 }
+
+fn probe()
+    ensures { Unit }
+{}
