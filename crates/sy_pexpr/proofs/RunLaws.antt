@@ -104,3 +104,24 @@ module _ (toks : List Token) (at : ℕ) where
   no_block none = λ b end block. let again = blocks_are_read toks at b end block in
       let clash : None ≡ Some ((b, again.0), drop end toks) = sym none ∙ again.1 in
       absurd (cc clash)
+
+  -- ---- the same of a list that is the rest
+
+  module _ (ts : List Token) (is : ts ≡ drop at toks) where
+    pub found_from : (t : Tall Expr) (rest : List Token) (end : ℕ) → at ≤ length toks → read_expr 64 1 ts ≡ Some (t, rest) → ends rest ≡ true → end ≡ length toks - length rest →
+        IsReadAs toks at t end
+    found_from t rest end within answer ended e =
+        subst (λ k. IsReadAs toks at t k) (sym e) (read_as t rest within (subst (λ us. read_expr 64 1 us ≡ Some (t, rest)) is answer) ended)
+
+    pub none_from : read_expr 64 1 ts ≡ None → HasNoRun toks at
+    none_from answer = no_answer (subst (λ us. read_expr 64 1 us ≡ None) is answer)
+
+    pub unended_from : (t : Tall Expr) (rest : List Token) → read_expr 64 1 ts ≡ Some (t, rest) → ends rest ≡ false → HasNoRun toks at
+    unended_from t rest answer unended = not_ended t rest (subst (λ us. read_expr 64 1 us ≡ Some (t, rest)) is answer) unended
+
+    pub block_from : (b : Tall Block) (rest : List Token) (end : ℕ) → at ≤ length toks → read_block 64 ts ≡ Some (b, rest) → end ≡ length toks - length rest → IsBlock toks at b.0 end
+    block_from b rest end within answer e =
+        subst (λ k. IsBlock toks at b.0 k) (sym e) (block_found toks at b rest within (subst (λ us. read_block 64 us ≡ Some (b, rest)) is answer))
+
+    pub no_block_from : read_block 64 ts ≡ None → HasNoBlock toks at
+    no_block_from answer = no_block (subst (λ us. read_block 64 us ≡ None) is answer)

@@ -3,7 +3,7 @@
 ghost use Rattle.std.specs.Prelude.{◌≡◌};
 ghost use Rattle.sy_reading.specs.Reading.{read_expr, read_stmt};
 ghost use Rattle.sy_cursor.specs.Reads.{Reads};
-ghost use Rattle.sy_pexpr.specs.Nests.{Nests};
+ghost use Rattle.sy_exprs.specs.Nests.{Nests};
 ghost use Rattle.sy_reading.specs.Stmts as stmts;
 
 use crate::statements::Statements;

@@ -8,8 +8,6 @@ ghost use Rattle.sy_pexpr.specs.Runs.{IsShortRun, IsOnlyRun, IsOnlyShortRun, IsO
 
 mod control;
 mod declarations;
-mod exprs;
-mod grammar;
 mod recursion;
 mod simple;
 mod statements;
@@ -124,7 +122,3 @@ pub fn block(alloc: Global, toks: &[Token], at: usize) -> Result<(Block, usize),
         Err(Stop::Memory) => Err(FrontStop::Memory),
     }
 }
-
-fn probe()
-    ensures { Unit }
-{}

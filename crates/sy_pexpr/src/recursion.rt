@@ -4,9 +4,9 @@ ghost use Rattle.std.specs.Prelude.{◌≡◌};
 ghost use Rattle.sy_reading.specs.Reading as spec;
 ghost use Rattle.sy_cursor.specs.Reads.{Reads};
 
-use crate::grammar::Grammar;
 use crate::statements::Statements;
 use sy_cursor::{Stop, Tall, Tokens};
+use sy_exprs::Grammar;
 use sy_tree::{Block, Expr, Stmt};
 
 /// An expression whose loosest operator is of that level or tighter.

@@ -3,7 +3,8 @@
 ghost use Rattle.std.specs.Prelude.{◌≡◌, [], length};
 ghost use Rattle.sy_reading.specs.Reading.{read_expr, read_stmt};
 ghost use Rattle.sy_cursor.specs.Reads.{Reads};
-ghost use Rattle.sy_pexpr.specs.Nests.{Nests};
+ghost use Rattle.sy_pexpr.specs.Endings as endings;
+ghost use Rattle.sy_exprs.specs.Nests.{Nests};
 ghost use Rattle.sy_reading.specs.Stmts as stmts;
 
 use crate::statements::Statements;
@@ -21,6 +22,18 @@ fn declares_integers(tokens: &Tokens<'_>) -> bool
         || tokens.sees(Row::Reserved, b"constexpr")
         || tokens.sees(Row::Reserved, b"auto")
         || (sees_type(tokens) && !tokens.behind().sees(Row::Mark, b"("))
+}
+
+/// The statement of an expression that has been read, up to its `;`.
+fn ended_expression(
+    tokens: &mut Tokens<'_>,
+    found: Tall<FullExpression>,
+) -> Result<Tall<Stmt>, Stop>
+    ensures { Reads (endings.ended_expression found tokens.old.rest.now) result tokens.new.rest.now }
+{
+    let end = tokens.expect(Row::Mark, b";")?;
+    let (expression, height) = found;
+    grown(tokens, Stmt::Expression(expression, end), height)
 }
 
 impl<
@@ -61,9 +74,8 @@ impl<
         requires { Nests self.now.below.depth (E.pre self.now.below.expr) (E.post self.now.below.expr) (S.pre self.now.below.stmt) (S.post self.now.below.stmt) }
         ensures { Reads (stmts.expression (read_expr self.now.below.depth) (read_stmt self.now.below.depth) tokens.old.rest.now) result tokens.new.rest.now }
     {
-        let (found, height) = self.full_parts(tokens)?;
-        let end = tokens.expect(Row::Mark, b";")?;
-        grown(tokens, Stmt::Expression(found, end), height)
+        let found = self.full_parts(tokens)?;
+        ended_expression(tokens, found)
     }
 
     #[tactic(auto, unfolding(sy_reading::specs::Stmts::null))]

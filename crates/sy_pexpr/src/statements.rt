@@ -4,11 +4,11 @@
 ghost use Rattle.std.specs.Prelude.{◌≡◌};
 ghost use Rattle.sy_reading.specs.Reading.{read_expr, read_stmt};
 ghost use Rattle.sy_cursor.specs.Reads.{Reads};
-ghost use Rattle.sy_pexpr.specs.Nests.{Nests};
+ghost use Rattle.sy_exprs.specs.Nests.{Nests};
 ghost use Rattle.sy_reading.specs.Stmts as stmts;
 
-use crate::grammar::Grammar;
 use sy_cursor::{Stop, Tall, Tokens};
+use sy_exprs::Grammar;
 use sy_lex::Row;
 use sy_tree::{Expr, Stmt};
 

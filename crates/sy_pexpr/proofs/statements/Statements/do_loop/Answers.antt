@@ -21,4 +21,4 @@ returns-in_err-end g c = err_exit _ _ _ _ c.from_residual-in_err-end.ensures.1 (
 
 pub returns : goal.returns
 unfolding do_loop
-returns g c = rw (c.in_ok-spot.ensures, c.in_ok-body.ensures, c.in_ok-expect.ensures, c.in_ok-test.ensures, c.in_ok-end.ensures) c.grown.ensures
+returns g c = rw (c.in_ok-spot.ensures, c.in_ok-body.ensures, c.in_ok-expect.ensures, c.in_ok-test.ensures, c.in_ok-end.ensures, ← c.max.ensures) c.grown.ensures

@@ -5,7 +5,7 @@ use Rattle.sy_pexpr.proofs.statements.Statements.full.Goals as goal
 
 pub returns-in_err-found : goal.returns-in_err-found
 unfolding full
-returns-in_err-found g c = err_exit _ _ _ _ c.from_residual-in_err-found.ensures.1 (λ ne. rw (c.in_err-found.ensures ne) refl)
+returns-in_err-found g c = err_exit _ _ _ _ c.from_residual.ensures.1 (λ ne. rw (c.in_err-found.ensures ne) refl)
 
 pub returns : goal.returns
 unfolding full

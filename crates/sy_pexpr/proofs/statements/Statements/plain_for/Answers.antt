@@ -29,4 +29,4 @@ returns-in_err-body g c = err_exit _ _ _ _ c.from_residual-in_err-body.ensures.1
 
 pub returns : goal.returns
 unfolding plain_for
-returns g c = rw (c.in_ok-init.ensures, c.in_ok-test.ensures, c.in_ok-expect.ensures, c.in_ok-step.ensures, c.in_ok-expect-2.ensures, c.in_ok-body.ensures) c.grown.ensures
+returns g c = rw (c.in_ok-init.ensures, c.in_ok-test.ensures, c.in_ok-expect.ensures, c.in_ok-step.ensures, c.in_ok-expect-2.ensures, c.in_ok-body.ensures, ← c.max.ensures, ← c.max-2.ensures, ← c.max-3.ensures) c.grown.ensures

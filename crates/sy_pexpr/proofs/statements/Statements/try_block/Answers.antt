@@ -17,4 +17,4 @@ returns-in_err-caught g c = err_exit _ _ _ _ c.from_residual-in_err-caught.ensur
 
 pub returns : goal.returns
 unfolding try_block
-returns g c = rw (c.in_ok-spot.ensures, c.in_ok-block.ensures, c.in_ok-name.ensures, c.in_ok-caught.ensures) c.grown.ensures
+returns g c = rw (c.in_ok-spot.ensures, c.in_ok-block.ensures, c.in_ok-name.ensures, c.in_ok-caught.ensures, ← c.max.ensures) c.grown.ensures

@@ -13,4 +13,4 @@ returns-in_err-body g c = err_exit _ _ _ _ c.from_residual-in_err-body.ensures.1
 
 pub returns : goal.returns
 unfolding while_loop
-returns g c = rw (c.in_ok-spot.ensures, c.in_ok-test.ensures, c.in_ok-body.ensures) c.grown.ensures
+returns g c = rw (c.in_ok-spot.ensures, c.in_ok-test.ensures, c.in_ok-body.ensures, ← c.max.ensures) c.grown.ensures
