@@ -42,7 +42,9 @@ fn accepts(cursor: &mut Tokens<'_>, part: Part) -> bool {
 
 /// Whether the part is there, and how many tokens are left.
 fn left_behind(rt: HostRuntime, part: Part, source: &[u8]) -> Result<(bool, usize), Fail> {
-    assert!(rt; source.len() <= 1048576);
+    if source.len() > 1048576 {
+        return Err(Fail::new("too long"));
+    }
     let toks = tokens(rt.alloc(), source)?;
     let mut cursor = Tokens::new(rt.alloc(), toks.as_slice());
     let found = accepts(&mut cursor, part);
@@ -89,9 +91,11 @@ fn parts(rt: HostRuntime) -> Result<(), Fail> {
     Ok(())
 }
 
-/// The integer type at the front, and how many tokens are left.
-fn kind_at(rt: HostRuntime, source: &[u8]) -> Result<(Option<Kind>, usize), Fail> {
-    assert!(rt; source.len() <= 1048576);
+/// Whether an integer type begins, which one it is, and how many tokens are left.
+fn kind_at(rt: HostRuntime, source: &[u8]) -> Result<(bool, Option<Kind>, usize), Fail> {
+    if source.len() > 1048576 {
+        return Err(Fail::new("too long"));
+    }
     let toks = tokens(rt.alloc(), source)?;
     let mut cursor = Tokens::new(rt.alloc(), toks.as_slice());
     let begins = sees_type(&cursor);
@@ -99,8 +103,7 @@ fn kind_at(rt: HostRuntime, source: &[u8]) -> Result<(Option<Kind>, usize), Fail
         Ok(found) => Some(found.kind),
         Err(_) => None,
     };
-    assert_eq!(rt; begins, kind.is_some());
-    Ok((kind, cursor.left()))
+    Ok((begins, kind, cursor.left()))
 }
 
 #[test]
@@ -118,7 +121,7 @@ fn integer_types(rt: HostRuntime) -> Result<(), Fail> {
     ];
     for (source, kind, left) in table {
         let got = kind_at(rt, source)?;
-        assert_eq!(rt; got, (kind, left), "{source:?}");
+        assert_eq!(rt; got, (kind.is_some(), kind, left), "{source:?}");
     }
     Ok(())
 }
