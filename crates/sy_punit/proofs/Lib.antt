@@ -1,0 +1,4 @@
+pub mod Kept
+pub mod Parsed
+pub mod UnitRead
+pub mod UnitSound
