@@ -1,10 +1,10 @@
 //! Names of the library written out, as the grammar has them.
 
-ghost use Rattle.std.specs.Prelude.{◌≡◌, ◌<◌, ◌++◌, [], ◌∷◌, length, IfOk, OnOk, MatchOption, codes, ◌&&◌, not, if◌then◌else◌};
+ghost use Rattle.std.specs.Prelude.{◌≡◌, ◌++◌, [], ◌∷◌, IfOk, OnOk, MatchOption, codes, ◌&&◌, ◌||◌, not, if◌then◌else◌};
 ghost use Rattle.std.specs.List.{list_any};
 ghost use Rattle.std.specs.Str.{bytes_eq};
 ghost use Rattle.sy_tree.specs.Qualification as spec;
-ghost use Rattle.sy_punit.specs.Qualifying.{drops_std, written};
+ghost use Rattle.sy_punit.specs.Qualifying.{drops_std, kept_from, written, type_names, value_names, function_names};
 
 use std::alloc::{AllocError, Global};
 use sy_lex::{Row, Text, Token, Word};
@@ -59,50 +59,86 @@ fn is_type_word(word: &Word) -> bool
         )
 }
 
+fn is_type_name(text: &[u8]) -> bool
+    ensures { result ≡ list_any (bytes_eq text.now) type_names }
+{
+    is_one_of!(
+        text;
+        b"buffer",
+        b"accessor",
+        b"host_accessor",
+        b"local_accessor",
+        b"queue",
+        b"device",
+        b"context",
+        b"handler",
+        b"event",
+        b"range",
+        b"id",
+        b"nd_range",
+        b"item",
+        b"nd_item",
+        b"group",
+        b"group_barrier"
+    )
+}
+
+fn is_value_name(text: &[u8]) -> bool
+    ensures { result ≡ list_any (bytes_eq text.now) value_names }
+{
+    is_one_of!(
+        text;
+        b"read_only",
+        b"write_only",
+        b"read_write",
+        b"no_init",
+        b"property",
+        b"info",
+        b"exception",
+        b"errc"
+    )
+}
+
+fn is_function_name(text: &[u8]) -> bool
+    ensures { result ≡ list_any (bytes_eq text.now) function_names }
+{
+    is_one_of!(
+        text;
+        b"reduction",
+        b"plus",
+        b"multiplies",
+        b"minimum",
+        b"maximum",
+        b"bit_and",
+        b"bit_or",
+        b"bit_xor",
+        b"reduce_over_group",
+        b"exclusive_scan_over_group",
+        b"inclusive_scan_over_group",
+        b"group_broadcast"
+    )
+}
+
+#[tactic(auto, using(crate::proofs::Kept::library_name))]
 fn is_library_name(word: &Word) -> bool
     ensures { result ≡ spec.is_library_name word.now }
 {
     let text = word.text.items();
-    matches!(word.row, Row::Ident)
-        && is_one_of!(
-            text;
-            b"buffer",
-            b"accessor",
-            b"host_accessor",
-            b"local_accessor",
-            b"queue",
-            b"device",
-            b"context",
-            b"handler",
-            b"event",
-            b"range",
-            b"id",
-            b"nd_range",
-            b"item",
-            b"nd_item",
-            b"group",
-            b"group_barrier",
-            b"read_only",
-            b"write_only",
-            b"read_write",
-            b"no_init",
-            b"property",
-            b"info",
-            b"exception",
-            b"errc",
-            b"reduction",
-            b"plus",
-            b"multiplies",
-            b"minimum",
-            b"maximum",
-            b"bit_and",
-            b"bit_or",
-            b"bit_xor",
-            b"reduce_over_group",
-            b"exclusive_scan_over_group",
-            b"inclusive_scan_over_group",
-            b"group_broadcast"
-        )
+    matches!(word.row, Row::Ident) && (is_type_name(text) || is_value_name(text) || is_function_name(text))
+}
+
+/// Whether a name gets its namespace.
+fn gets_namespace(used: bool, selected: bool, word: &Word) -> bool
+    ensures { result ≡ used && not selected && spec.is_library_name word.now }
+{
+    used && !selected && is_library_name(word)
+}
+
+/// Whether a `using` stands before what follows the word.
+fn is_used(used: bool, word: &Word) -> bool
+    ensures { result ≡ used || spec.is_using word.now }
+{
+    used || is_using(word)
 }
 
 /// A token of its own with that row and text, at the place of another.
@@ -124,21 +160,40 @@ fn copied(alloc: Global, token: &Token) -> Result<Token, AllocError>
     beside(alloc, token, token.word.row, token.word.text.items())
 }
 
+/// Puts a token behind the others.
+fn keep_plain(alloc: Global, out: &mut Vec<Token>, token: &Token) -> Result<(), AllocError>
+    ensures { OnOk result (out.new.items ≡ out.old.items ++ token.now ∷ []) }
+{
+    let token = copied(alloc, token)?;
+    out.push(token)?;
+    Ok(())
+}
+
+/// The same, with its namespace before it.
+fn keep_named(alloc: Global, out: &mut Vec<Token>, token: &Token) -> Result<(), AllocError>
+    ensures { OnOk result (out.new.items ≡ out.old.items ++ spec.with_namespace token.now) }
+{
+    let namespace = beside(alloc, token, Row::Ident, b"sycl")?;
+    let scope = beside(alloc, token, Row::Mark, b"::")?;
+    out.push(namespace)?;
+    out.push(scope)?;
+    keep_plain(alloc, out, token)
+}
+
 /// Puts a token behind the others, with its namespace before it if it is to have one.
 fn keep(
     alloc: Global,
     out: &mut Vec<Token>,
     token: &Token,
-    with_namespace: bool,
+    named: bool,
 ) -> Result<(), AllocError>
-    ensures { OnOk result (out.new.items ≡ out.old.items ++ written with_namespace token.now) }
+    ensures { OnOk result (out.new.items ≡ out.old.items ++ written named token.now) }
 {
-    if with_namespace {
-        out.push(beside(alloc, token, Row::Ident, b"sycl")?)?;
-        out.push(beside(alloc, token, Row::Mark, b"::")?)?;
+    if named {
+        keep_named(alloc, out, token)
+    } else {
+        keep_plain(alloc, out, token)
     }
-    out.push(copied(alloc, token)?)?;
-    Ok(())
 }
 
 /// Whether `std::` and a name of an integer type come next.
@@ -153,15 +208,26 @@ fn drops_std(rest: &[Token]) -> bool
     }
 }
 
+/// The tokens from the next one that is kept on.
+fn kept_from(rest: &[Token]) -> &[Token]
+    ensures { result.now ≡ kept_from rest.now }
+{
+    if drops_std(rest) {
+        match rest {
+            [_, _, kept @ ..] => kept,
+            _ => rest,
+        }
+    } else {
+        rest
+    }
+}
+
 /// The next token that is kept, and what stands behind it.
 fn next_kept(rest: &[Token]) -> Option<(&Token, &[Token])>
-    ensures kept { MatchOption result (rest.now ≡ []) (λ p. spec.without_std rest.now ≡ p.0.now ∷ spec.without_std p.1.now) }
-    ensures shorter { MatchOption result (rest.now ≡ []) (λ p. length p.1.now < length rest.now) }
+    ensures { MatchOption result (kept_from rest.now ≡ []) (λ p. kept_from rest.now ≡ p.0.now ∷ p.1.now) }
 {
-    let dropped = drops_std(rest);
-    match rest {
+    match kept_from(rest) {
         [] => None,
-        [_, _, third, others @ ..] if dropped => Some((third, others)),
         [first, others @ ..] => Some((first, others)),
     }
 }
@@ -176,9 +242,9 @@ pub fn qualify(alloc: Global, toks: &[Token]) -> Result<Vec<Token>, AllocError>
     let mut used = false;
     let mut selected = false;
     while let Some((token, others)) = next_kept(rest) {
-        let with_namespace = used && !selected && is_library_name(&token.word);
-        keep(alloc, &mut out, token, with_namespace)?;
-        used = used || is_using(&token.word);
+        let named = gets_namespace(used, selected, &token.word);
+        keep(alloc, &mut out, token, named)?;
+        used = is_used(used, &token.word);
         selected = is_selector(&token.word);
         rest = others;
     }
