@@ -1,6 +1,6 @@
 -- A unit that stands there is read.
 use Prim.Native.String.{String}
-use Rattle.std.proofs.Common.{◌≡◌, ℕ, zero, suc, ◌≤◌, ◌<◌, nat_lt, Bool, true, false, ◌&&◌, ◌||◌, not, List, [], ◌∷◌, ◌++◌, length, inl, inr, Option, Some, None, refl, sym, ap, ◌∙◌, arith, append_assoc, append-nil, lt-ltb, codes}
+use Rattle.std.proofs.Common.{◌≡◌, ℕ, zero, suc, ◌≤◌, ◌<◌, nat_lt, Bool, true, false, not, List, [], ◌∷◌, ◌++◌, length, inl, inr, Option, Some, None, refl, ap, ◌∙◌, arith, append_assoc, append-nil, lt-ltb, codes}
 use Rattle.std.specs.List.{list_any}
 use Rattle.sy_lex.specs.declared.Row.TheVariants as row
 use Rattle.sy_lex.specs.declared.Token.{Token}
@@ -37,20 +37,19 @@ use Rattle.sy_tree.specs.Declarations.{DeclaratorRule, OneDeclarator}
 use Rattle.sy_tree.specs.Expressions.{an_expr, a_block}
 use Rattle.sy_tree.specs.Grammar.{Derives}
 use Rattle.sy_tree.specs.Layers.{DeclaratorLayer}
-use Rattle.sy_tree.specs.Lists.{Rule, Maybe, Optional, Each, Listed, MaybeListed}
+use Rattle.sy_tree.specs.Lists.{Rule, Maybe, Optional, Each, MaybeListed}
 use Rattle.sy_tree.specs.Types.{Integral, CommaDimensions, Elements, Object, TypeSpecified, Referenced, VectorOf, OneParameter, ConstSpecified, Returned}
 use Rattle.sy_tree.specs.Units.{Included, Using, IsConstantInitializer, OneConstant, OneFunction, OneItem, FileItems, WholeUnit, ends}
 use Rattle.sy_tree.specs.Words.{At, Sees, mark, keyword, identifier, Spelled, SpelledAs, spellings}
-use Rattle.sy_tree.proofs.Theorems.{Derives-taller, Derives-takes}
+use Rattle.sy_tree.proofs.Theorems.{Derives-takes}
 use Rattle.sy_reading.specs.Exprs.{binds}
-use Rattle.sy_reading.specs.Input.{Reader, Tall, expect, advance, lexed, sees, sees_row, sees_namespace, after, eat, within, maybe_listed}
-use Rattle.sy_reading.specs.Parts.{integral, type_specifier, object_type, sees_type}
-use Rattle.sy_reading.specs.Reading.{readers, read_expr, read_block}
+use Rattle.sy_reading.specs.Input.{Reader, advance, sees, sees_row, sees_namespace, after}
+use Rattle.sy_reading.specs.Reading.{readers}
 use Rattle.sy_reading.specs.Tables.{fixed_width_of, keyword_of, one_word_of}
 use Rattle.sy_reading.proofs.Complete.{completes}
 use Rattle.sy_reading.proofs.ExprRead.{block_read, type_row, advance_at, semicolon_ends, brace_ends}
 use Rattle.sy_reading.proofs.PartsRead.{NoWord, integral_read, integral_type, not_type, type_specifier_read, object_read, and_no, namespace_at}
-use Rattle.sy_reading.proofs.ReadSteps.{ReadsAs, sees_at, sees_other, row_at, no_row, next_at, expect_at, lexed_at, after_at, after_none, maybe_sees, maybe_after, within_at, at_length, passed, list_short, maybe_listed_read}
+use Rattle.sy_reading.proofs.ReadSteps.{ReadsAs, sees_at, sees_other, row_at, no_row, expect_at, lexed_at, after_none, maybe_sees, maybe_after, within_at, at_length, passed, list_short, maybe_listed_read}
 use Rattle.sy_reading.proofs.Steps.{word, same_row_is}
 use Rattle.sy_punit.specs.Reader as r
 

@@ -1,5 +1,5 @@
 -- A unit that is read stands there.
-use Rattle.std.proofs.Common.{◌≡◌, ℕ, zero, suc, ◌<◌, ◌≤◌, nat_lt, Bool, true, false, cond, ◌&&◌, ◌||◌, not, List, [], ◌∷◌, ◌++◌, length, ⊎_elim, Option, Some, None, refl, sym, ap, ◌∙◌, subst, arith, append_assoc, append-nil, codes}
+use Rattle.std.proofs.Common.{◌≡◌, ℕ, zero, suc, ◌<◌, nat_lt, Bool, true, false, cond, ◌&&◌, not, List, [], ◌∷◌, ◌++◌, length, ⊎_elim, Option, Some, None, refl, sym, ap, ◌∙◌, subst, arith, append_assoc, append-nil, codes}
 use Rattle.std.proofs.lemmas.Bool.{ltb-true}
 use Rattle.std.specs.List.{list_any}
 use Rattle.sy_lex.specs.declared.Row.TheVariants as row
@@ -31,14 +31,14 @@ use Rattle.sy_tree.specs.Grammar.{Derives}
 use Rattle.sy_tree.specs.Lists.{Rule, Maybe, Each}
 use Rattle.sy_tree.specs.Types.{Object, Referenced, OneParameter, ConstSpecified, Returned}
 use Rattle.sy_tree.specs.Units.{Included, Using, IsConstantInitializer, OneConstant, OneFunction, OneItem, FileItems, WholeUnit, ends}
-use Rattle.sy_tree.specs.Words.{At, mark, keyword, identifier}
+use Rattle.sy_tree.specs.Words.{mark, keyword, identifier}
 use Rattle.sy_tree.proofs.Theorems.{Derives-taller}
-use Rattle.sy_reading.specs.Input.{Reader, Tall, expect, advance, lexed, sees, sees_row, sees_namespace, after, eat, within, maybe_listed}
+use Rattle.sy_reading.specs.Input.{Reader, Tall, expect, advance, lexed, sees, sees_row, sees_namespace, after, within, maybe_listed}
 use Rattle.sy_reading.specs.Parts.{integral, type_specifier, object_type}
 use Rattle.sy_reading.specs.Reading.{readers, read_expr, read_block}
 use Rattle.sy_reading.proofs.PartsSound.{integral_is, type_specifier_is, object_type_is}
 use Rattle.sy_reading.proofs.Sound.{reads_sound}
-use Rattle.sy_reading.proofs.Steps.{bind_some, finish, guard_some, choice, which, and_both, word, same_row_is, placed, expected, expects, lexed_is, eaten, within_is, maybe_listed_stand}
+use Rattle.sy_reading.proofs.Steps.{bind_some, finish, guard_some, choice, and_both, word, same_row_is, placed, expected, expects, lexed_is, eaten, within_is, maybe_listed_stand}
 use Rattle.sy_reading.proofs.StmtSound.{one_block_is}
 use Rattle.sy_punit.specs.Reader as r
 
@@ -117,9 +117,9 @@ module _ (fixed : Bool) (from m : List Token) (there : Maybe (keyword "const") f
         c.0.1,
         a.0.1,
         there,
-        (q.0.1, o.0.1, t.0.1, within_is _ _ _ _ _ q.1, expects _ _ _ _ _ o.1, integral_is o.0.1 t.0.1 t.0.0 t.1, expects _ _ _ _ _ c.1),
-        expects _ _ _ _ _ a.1,
-        lexed_is _ _ _ _ n.1,
+        (q.0.1, o.0.1, t.0.1, within_is (codes "std") (codes "vector") m q.0.1 q.0.0 q.1, expects row.Mark (codes "<") q.0.1 o.0.1 o.0.0 o.1, integral_is o.0.1 t.0.1 t.0.0 t.1, expects row.Mark (codes ">") t.0.1 c.0.1 c.0.0 c.1),
+        expects row.Mark (codes "&") c.0.1 a.0.1 a.0.0 a.1,
+        lexed_is row.Ident a.0.1 n.0.1 n.0.0 n.1,
       )
 
   integer_parameter_is : (rest : List Token) (x : Tall Parameter) → r.integer_parameter fixed m ≡ Some (x, rest) → OneParameter x.0 from rest

@@ -1,2 +1,3 @@
 pub mod Qualifying
 pub mod Reader
+pub mod Runs

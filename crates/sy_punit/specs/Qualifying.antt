@@ -1,5 +1,5 @@
 -- What one step of the qualification looks at, and what it writes.
-use Rattle.std.specs.Prelude.{ℕ, Bool, true, false, ◌&&◌, if◌then◌else◌, List, [], ◌∷◌, drop, codes}
+use Rattle.std.specs.Prelude.{ℕ, Bool, false, ◌&&◌, if◌then◌else◌, List, [], ◌∷◌, drop, codes}
 use Rattle.sy_lex.specs.declared.Token.{Token}
 use Rattle.sy_tree.specs.Qualification.{is_std, is_scope, is_type_word, with_namespace}
 

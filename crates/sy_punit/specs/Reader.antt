@@ -7,13 +7,11 @@ use Rattle.sy_note.specs.declared.Spot.{Spot}
 use Rattle.sy_tree.specs.declared.parts.Brackets.TheVariants as brackets
 use Rattle.sy_tree.specs.declared.parts.ConstSpecifier.{ConstSpecifier}
 use Rattle.sy_tree.specs.declared.parts.ConstSpecifier.TheVariants as const
-use Rattle.sy_tree.specs.declared.parts.IntegerType.{IntegerType}
 use Rattle.sy_tree.specs.declared.parts.Lexeme.{Lexeme}
 use Rattle.sy_tree.specs.declared.parts.ObjectType.{ObjectType}
 use Rattle.sy_tree.specs.declared.parts.ObjectType.TheVariants as object
 use Rattle.sy_tree.specs.declared.parts.Parameter.{Parameter}
 use Rattle.sy_tree.specs.declared.parts.Parameter.TheVariants as parameter
-use Rattle.sy_tree.specs.declared.parts.Qualified.{Qualified}
 use Rattle.sy_tree.specs.declared.parts.ReferenceType.{ReferenceType}
 use Rattle.sy_tree.specs.declared.parts.ReferenceType.TheVariants as reference
 use Rattle.sy_tree.specs.declared.parts.ReturnType.{ReturnType}

@@ -1,4 +1,5 @@
-//! The parser of whole sources.
+//! The parser of whole sources: it writes out the names of the library, and reads the lines at the head, the constants
+//! and the functions. Expressions and blocks are the crate's below.
 #![tactic(auto)]
 
 ghost use Rattle.std.specs.Prelude.{◌≡◌, IfOk, IsErrOf};
@@ -8,6 +9,7 @@ ghost use Rattle.sy_tree.specs.Units.{IsUnit};
 
 mod calls;
 mod items;
+mod lower;
 mod names;
 mod parameters;
 #[cfg(test)]
@@ -60,8 +62,8 @@ fn refusal(bytes: &[u8], rest: &[Token]) -> FrontStop
     })
 }
 
-/// The unit that the tokens of a source are. The bytes of the source tell where it ends, for the place of a refusal
-/// there.
+/// The unit that the tokens of a source are. Where they are none, the diagnostic says [`Code::Grammar`] and names the
+/// furthest token at which nothing went on, or the end of the text, which is what the bytes are for.
 pub fn parse(alloc: Global, bytes: &[u8], toks: &[Token]) -> Result<Unit, FrontStop>
     ensures found { IfOk result (λ u. IsUnit toks.now u) }
     ensures only { IfOk result (λ u. (v : SourceUnit) → IsUnit toks.now v → v ≡ u) }

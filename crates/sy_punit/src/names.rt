@@ -124,7 +124,8 @@ fn is_library_name(word: &Word) -> bool
     ensures { result ≡ spec.is_library_name word.now }
 {
     let text = word.text.items();
-    matches!(word.row, Row::Ident) && (is_type_name(text) || is_value_name(text) || is_function_name(text))
+    matches!(word.row, Row::Ident)
+        && (is_type_name(text) || is_value_name(text) || is_function_name(text))
 }
 
 /// Whether a name gets its namespace.
@@ -181,12 +182,7 @@ fn keep_named(alloc: Global, out: &mut Vec<Token>, token: &Token) -> Result<(), 
 }
 
 /// Puts a token behind the others, with its namespace before it if it is to have one.
-fn keep(
-    alloc: Global,
-    out: &mut Vec<Token>,
-    token: &Token,
-    named: bool,
-) -> Result<(), AllocError>
+fn keep(alloc: Global, out: &mut Vec<Token>, token: &Token, named: bool) -> Result<(), AllocError>
     ensures { OnOk result (out.new.items ≡ out.old.items ++ written named token.now) }
 {
     if named {

@@ -1,4 +1,4 @@
-use Rattle.std.proofs.Common.{rules, ◌≡◌, arith, ◌∙◌, sym, refl}
+use Rattle.std.proofs.Common.{rules, arith, ◌∙◌, sym}
 use Rattle.std.proofs.lemmas.Grind.{common_steps}
 use Rattle.sy_punit.proofs.Kept.{one_written, none_left, shorter}
 use Rattle.sy_punit.proofs.names.qualify.Goals as goal
