@@ -1,0 +1,3 @@
+pub mod Qualifying
+pub mod Reader
+pub mod Runs
