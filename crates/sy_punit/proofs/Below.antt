@@ -9,7 +9,7 @@ use Rattle.sy_tree.specs.Units.{IsRun, IsBlock, ends}
 use Rattle.sy_tree.proofs.Theorems.{Derives-taller, Derives-takes}
 use Rattle.sy_reading.proofs.Runs.{runs_are_read}
 use Rattle.sy_reading.proofs.Sound.{reads_sound}
-use Rattle.sy_punit.specs.Runs.{IsShortRun, HasNoShortRun, HasNoBlock}
+use Rattle.sy_pexpr.specs.Runs.{IsShortRun, HasNoShortRun, HasNoBlock}
 use Rattle.sy_punit.specs.Reader as r
 use Rattle.sy_punit.proofs.UnitRead.{short_value_read, body_read}
 use Rattle.sy_punit.proofs.UnitSound.{short_value_is, body_is}

@@ -1,3 +1,2 @@
 pub mod Qualifying
 pub mod Reader
-pub mod Runs

@@ -4,7 +4,7 @@ ghost use Rattle.std.specs.Prelude.{◌≡◌};
 ghost use Rattle.sy_cursor.specs.Reads.{Reads};
 ghost use Rattle.sy_punit.specs.Reader as spec;
 
-use crate::lower::{block, short_expr};
+use sy_pexpr::{block, short_expr};
 use sy_cursor::{Stop, Tokens};
 use sy_note::{FrontStop, Spot};
 use sy_tree::{Block, Expr};

@@ -9,7 +9,6 @@ ghost use Rattle.sy_tree.specs.Units.{IsUnit};
 
 mod calls;
 mod items;
-mod lower;
 mod names;
 mod parameters;
 #[cfg(test)]
