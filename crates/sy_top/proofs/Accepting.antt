@@ -1,4 +1,5 @@
 -- A source that has a tree is accepted with one program, or refused.
+use Rattle.std.specs.Prelude.{Result, Ok, Err, IfOk}
 use Rattle.std.proofs.Common.{◌≡◌, ℕ, List, Option, Some, None, refl, sym, ap, ◌∙◌, subst}
 use Rattle.sy_note.specs.declared.Code.TheVariants.{NotBuilt}
 use Rattle.sy_note.specs.declared.Diagnostic.{Diagnostic}
@@ -43,14 +44,22 @@ module _ (set : Settings) (bytes : List ℕ) (serial : set.job ≡ Serial) where
         let a = accepted p r in
         none_and_some (first_unbuilt unit) s (ap first_unbuilt (sym (only a.unit a.source)) ∙ a.built) unbuilt
 
-    pub judges : (j : Judged) → JudgesTree set unit j → Judges set bytes j
+    judges : (j : Judged) → JudgesTree set unit j → Judges set bytes j
     judges (Ran ready) h = ready_of ready h.0 h.1
     judges (Refused d note) h = (rejects d (subst (λ c. Breaks bytes c d.spot) (sym h.0) (unit, source, h.1)), unaccepted d.spot h.1, h.2)
 
-  pub refuses : (d : Diagnostic) → IsNoSource bytes d → (j : Judged) → IsRefusal d j → Judges set bytes j
+    pub judges_tree : {E : Type 0} (r : Result Judged E) → IfOk r (JudgesTree set unit) → IfOk r (Judges set bytes)
+    judges_tree (Ok j) h = judges j h
+    judges_tree (Err e) h = tt
+
+  refuses : (d : Diagnostic) → IsNoSource bytes d → (j : Judged) → IsRefusal d j → Judges set bytes j
   refuses d none (Ran ready) h = absurd h
   refuses d none (Refused e note) h = (
     rejects e (subst (λ x. Breaks bytes x.code x.spot) (sym h.0) none.0),
     λ p r. let a = accepted p r in none.1 a.unit a.source,
     h.1,
   )
+
+  pub refused : {E : Type 0} (d : Diagnostic) → IsNoSource bytes d → (r : Result Judged E) → IfOk r (IsRefusal d) → IfOk r (Judges set bytes)
+  refused d none (Ok j) h = refuses d none j h
+  refused d none (Err e) h = tt
