@@ -1,0 +1,133 @@
+-- A main that prints sums asks what its program says.
+use Rattle.std.proofs.Common.{◌≡◌, ℕ, zero, suc, ℤ, ◌+◌, ◌-◌, ◌<◌, ◌≤◌, Bool, true, false, List, [], ◌∷◌, ◌++◌, length, get_or, drop, Option, Some, None, refl, sym, ap, ◌∙◌, subst, arith, length-append}
+use Rattle.std.proofs.Math.Seq.{drop-nil}
+use Rattle.std.proofs.lemmas.Bool.Decides.{nat_tests}
+use Rattle.std.proofs.lemmas.List.{drop-drop, drop_all, drop_more}
+use Rattle.std.proofs.lemmas.List.Elements.{filter_map-append}
+use Rattle.std.specs.Prelude.{nat_lt, slice_get, filter_map, flat_map}
+use Rattle.sy_tree.specs.declared.tree.Stmt.{Stmt}
+use Rattle.sy_work.specs.Answers.{Fits}
+use Rattle.sy_work.specs.Programs.{NextAsk}
+use Rattle.sy_work.specs.declared.asks.Answer.{Answer}
+use Rattle.sy_work.specs.declared.asks.Ask.{Ask}
+use Rattle.sy_work.specs.declared.asks.Ask.TheVariants.{Spawn}
+use Rattle.sy_sums.specs.declared.sums.Given.{Given}
+use Rattle.sy_sums.specs.declared.sums.Given.TheVariants as given
+use Rattle.sy_sums.specs.declared.sums.Operand.{Operand}
+use Rattle.sy_sums.specs.Hosts.{StandsFor, ahead, open_ask, unanswered}
+use Rattle.sy_sums.specs.Sums.{ask_of_sum, ask_here, operand_of, printed_by, program_of}
+
+-- ---- what is ahead
+
+-- at the start all of them are
+pub all_ahead : (statements : List Stmt) → ahead 0 statements ≡ filter_map operand_of (flat_map printed_by statements)
+all_ahead [] = refl
+all_ahead (x ∷ more) = sym (filter_map-append operand_of (printed_by x) (flat_map printed_by more))
+
+module _ (ss : List Stmt) (i : ℕ) (x : Stmt) (done : ℕ) (within : i < length ss) (is : x ≡ get_or ss i x) where
+  -- this statement is the first that is left
+  split : drop i ss ≡ x ∷ drop (i + 1) ss
+  split = drop_more ss i x within ∙ ap (λ y. y ∷ drop (i + 1) ss) (sym is)
+
+  -- the next sum of the first print is the next of all
+  pub found_here : (after : ℕ) (o : Operand) →
+      unanswered (Some (Some o)) (filter_map operand_of (drop after (printed_by x))) ≡ filter_map operand_of (drop done (printed_by x)) →
+      unanswered (Some (Some o)) (ahead after (drop i ss)) ≡ ahead done (drop i ss)
+  found_here after o h =
+      subst (λ l. unanswered (Some (Some o)) (ahead after l) ≡ ahead done l) (sym split)
+        (ap (λ ops. ops ++ filter_map operand_of (flat_map printed_by (drop (i + 1) ss))) h)
+
+  -- where the first print has none, it is the next of the statements after it
+  pub none_here : [] ≡ filter_map operand_of (drop done (printed_by x)) → ahead 0 (drop (i + 1) ss) ≡ ahead done (drop i ss)
+  none_here h =
+      subst (λ l. ahead 0 (drop (i + 1) ss) ≡ ahead done l) (sym split)
+        (all_ahead (drop (i + 1) ss) ∙ ap (λ ops. ops ++ filter_map operand_of (flat_map printed_by (drop (i + 1) ss))) h)
+
+pub none_taken : (o : Option Operand) (rest others : List Operand) → o ≡ None → unanswered (Some o) rest ≡ others → [] ≡ others
+none_taken None rest others e h = h
+none_taken (Some o) rest others e h = absurd cc
+
+-- behind the last statement there is none
+pub none_left : (ss : List Stmt) (i done : ℕ) → length ss ≤ i → [] ≡ ahead done (drop i ss)
+none_left ss i done past = ap (ahead done) (sym (drop_all i ss past))
+
+-- ---- the ask
+
+-- a turn is left where fewer were taken
+turn_left : (k turns left : ℕ) → left ≡ turns - k → nat_lt 0 left ≡ nat_lt k turns
+turn_left k turns left e = grind (arith, nat_tests)
+
+-- the next sum after k of them is the one at k
+front_is : (ops : List Operand) (k : ℕ) (o : Option Operand) (rest : List Operand) → unanswered (Some o) rest ≡ drop k ops → o ≡ slice_get ops k
+front_is [] k None rest h = refl
+front_is [] k (Some o) rest h = let none : o ∷ rest ≡ [] = h ∙ drop-nil k in absurd cc
+front_is (x ∷ ops) zero None rest h = absurd cc
+front_is (x ∷ ops) zero (Some o) rest h = cc
+front_is (x ∷ ops) (suc k) o rest h = front_is ops k o rest h
+
+pub asks_on : (next : NextAsk) (left : ℕ) (rest others : List Operand) (body : ℕ) (captures : List ℤ) (answers : List Answer) (o : Option Operand) (ask : Ask) →
+    StandsFor next (length answers) left others → unanswered (Some o) rest ≡ others → ask ≡ ask_here (nat_lt 0 left) o → ask ≡ next body captures answers
+asks_on next left rest others body captures answers o ask stands found asked =
+    asked ∙ ap (λ v. ask_here v o) (turn_left (length answers) stands.turns left stands.counted)
+    ∙ ap (ask_here (nat_lt (length answers) stands.turns)) (front_is stands.ops (length answers) o rest (found ∙ stands.here)) ∙ sym (stands.plays body captures answers)
+
+pub found_stands : (next : NextAsk) (count left : ℕ) (rest others : List Operand) → StandsFor next count left others → rest ≡ others → StandsFor next count left rest
+found_stands next count left rest others stands e = subst (StandsFor next count left) (sym e) stands
+
+-- no ask is open where none is noted
+not_asked : (left : ℕ) (asked : Option (Option Operand)) → open_ask left asked ≡ None → asked ≡ None
+not_asked left None h = refl
+not_asked left (Some o) h = absurd cc
+
+pub none_asked : (left : ℕ) (asked : Option (Option Operand)) (ops : List Operand) → open_ask left asked ≡ None → ops ≡ unanswered asked ops
+none_asked left asked ops h = ap (λ a. unanswered a ops) (sym (not_asked left asked h))
+
+-- ---- the answer
+
+one_longer : (answers : List Answer) (a : Answer) → length (answers ++ a ∷ []) ≡ length answers + 1
+one_longer answers a = simp length-append
+
+turns_after : (turns left after k : ℕ) → left ≡ turns - k → after ≡ left - 1 → after ≡ turns - (k + 1)
+turns_after turns left after k e f = omega arith
+
+one_less : (ops rest : List Operand) (k : ℕ) (o : Operand) → o ∷ rest ≡ drop k ops → rest ≡ drop (k + 1) ops
+one_less ops rest k o h = ap (drop 1) h ∙ drop-drop 1 k ops
+
+-- an ask that may be answered is that of a sum
+rest_after : (ops rest : List Operand) (k left : ℕ) (asked : Option (Option Operand)) (ask : Ask) (a : Answer) →
+    open_ask left asked ≡ Some ask → Fits ask a → unanswered asked rest ≡ drop k ops → rest ≡ drop (k + 1) ops
+rest_after ops rest k left None ask a is fits h = absurd cc
+rest_after ops rest k left (Some None) ask a is fits h =
+    let same : ask_here (nat_lt 0 left) None ≡ ask = cc in
+    absurd (subst (λ q. Fits q a) (sym same) fits)
+rest_after ops rest k left (Some (Some o)) ask a is fits h = one_less ops rest k o h
+
+pub stands_after : (next : NextAsk) (left after : ℕ) (rest : List Operand) (asked : Option (Option Operand)) (answers : List Answer) (a : Answer) →
+    StandsFor next (length answers) left (unanswered asked rest) → ((ask : Ask) × (open_ask left asked ≡ Some ask) × Fits ask a) → after ≡ left - 1 →
+    StandsFor next (length (answers ++ a ∷ [])) after rest
+stands_after next left after rest asked answers a stands fits e =
+    subst (λ k. StandsFor next k after rest) (sym (one_longer answers a)) (record {
+      turns = stands.turns;
+      ops = stands.ops;
+      plays = stands.plays;
+      counted = turns_after stands.turns left after (length answers) stands.counted e;
+      here = rest_after stands.ops rest (length answers) left asked fits.0 a fits.1 fits.2 stands.here;
+    })
+
+-- ---- threads
+
+no_spawn : {X : Type 0} (v : Bool) (body : ℕ) (captures : List ℤ) (line : ℕ) (g : Given) → ◌≡◌ {A = Option Ask} (Some (ask_of_sum v line g)) (Some (Spawn body captures)) → X
+no_spawn v body captures line (given.Overflow at) h = absurd cc
+no_spawn true body captures line (given.Number z) h = absurd cc
+no_spawn false body captures line (given.Number z) h = absurd cc
+
+-- no ask starts one
+pub starts_none : {X : Type 0} (left body : ℕ) (captures : List ℤ) (asked : Option (Option Operand)) → open_ask left asked ≡ Some (Spawn body captures) → X
+starts_none left body captures None h = absurd cc
+starts_none left body captures (Some None) h = absurd cc
+starts_none left body captures (Some (Some o)) h = no_spawn (nat_lt 0 left) body captures o.line o.given h
+
+-- ---- the start
+
+pub begins : (turns : ℕ) (ops : List Operand) → StandsFor (program_of turns ops).next 0 turns ops
+begins turns ops = record { turns = turns; ops = ops; plays = λ body captures answers. refl; counted = omega arith; here = refl }

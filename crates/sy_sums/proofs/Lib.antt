@@ -1,0 +1,4 @@
+pub mod Alone
+pub mod Commands
+pub mod Hosts
+pub mod Runs

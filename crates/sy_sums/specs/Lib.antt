@@ -1,0 +1,6 @@
+pub mod Commands
+pub mod Form
+pub mod Hosts
+pub mod Numerals
+pub mod Spots
+pub mod Sums
