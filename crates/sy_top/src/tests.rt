@@ -202,13 +202,25 @@ fn refuses(rt: HostRuntime) -> Result<(), Fail> {
         (b"int main(){ std::cout << 1 << 0x1; }", Code::NotBuilt, 31),
         (b"int main(){ std::cout << 00; }", Code::NotBuilt, 26),
         (b"int main(){ std::cout << 1u; }", Code::NotBuilt, 26),
-        (b"int main(){ std::cout << 1000000000000000000; }", Code::NotBuilt, 26),
+        (
+            b"int main(){ std::cout << 1000000000000000000; }",
+            Code::NotBuilt,
+            26,
+        ),
         (b"int main(){ std::cout << 1 + + 2; }", Code::NotBuilt, 30),
         (b"int main(){ std::cout << -1; }", Code::NotBuilt, 26),
         (b"int main(){ std::cout << 1 << 'a'; }", Code::NotBuilt, 31),
-        (b"int main(){ std::cout << 1 << std::endl; }", Code::NotBuilt, 31),
+        (
+            b"int main(){ std::cout << 1 << std::endl; }",
+            Code::NotBuilt,
+            31,
+        ),
         (b"int main(int n){ std::cout << 1; }", Code::NotBuilt, 1),
-        (b"int main(){ std::cout << 1; } int f(){}", Code::NotBuilt, 31),
+        (
+            b"int main(){ std::cout << 1; } int f(){}",
+            Code::NotBuilt,
+            31,
+        ),
     ];
     for (source, code, column) in cases {
         let (run, out, err) = serial(&rt, source, &CLEAN)?;
@@ -234,10 +246,7 @@ fn notes_of_refusals(rt: HostRuntime) -> Result<(), Fail> {
             b"int main(){\n  return 1 + * 2; }",
             "syclrun: 2:14: not in the grammar\n",
         ),
-        (
-            b"int main(){\n  return 1; }",
-            "syclrun: 2:3: not built\n",
-        ),
+        (b"int main(){\n  return 1; }", "syclrun: 2:3: not built\n"),
     ];
     for (source, note) in cases {
         let (_, _, err) = serial(&rt, source, &CLEAN)?;
@@ -310,7 +319,13 @@ fn every_prefix(rt: HostRuntime) -> Result<(), Fail> {
         assert!(rt; out.is_empty());
     }
     let (run, _, _) = serial(&rt, REVERSE_IN_GROUPS, &CLEAN)?;
-    assert_eq!(rt; run.ended, Ended::Refused(Diagnostic { spot: Spot { line: 4, column: 1 }, code: Code::NotBuilt }));
+    assert_eq!(rt;
+        run.ended,
+        Ended::Refused(Diagnostic {
+            spot: Spot { line: 4, column: 1 },
+            code: Code::NotBuilt
+        })
+    );
     Ok(())
 }
 
