@@ -35,13 +35,13 @@ module _ (ss : List Stmt) (i : ℕ) (x : Stmt) (done : ℕ) (within : i < length
       unanswered (Some (Some o)) (ahead after (drop i ss)) ≡ ahead done (drop i ss)
   found_here after o h =
       subst (λ l. unanswered (Some (Some o)) (ahead after l) ≡ ahead done l) (sym split)
-        (ap (λ ops. ops ++ filter_map operand_of (flat_map printed_by (drop (i + 1) ss))) h)
+      (ap (λ ops. ops ++ filter_map operand_of (flat_map printed_by (drop (i + 1) ss))) h)
 
   -- where the first print has none, it is the next of the statements after it
   pub none_here : [] ≡ filter_map operand_of (drop done (printed_by x)) → ahead 0 (drop (i + 1) ss) ≡ ahead done (drop i ss)
   none_here h =
       subst (λ l. ahead 0 (drop (i + 1) ss) ≡ ahead done l) (sym split)
-        (all_ahead (drop (i + 1) ss) ∙ ap (λ ops. ops ++ filter_map operand_of (flat_map printed_by (drop (i + 1) ss))) h)
+      (all_ahead (drop (i + 1) ss) ∙ ap (λ ops. ops ++ filter_map operand_of (flat_map printed_by (drop (i + 1) ss))) h)
 
 pub none_taken : (o : Option Operand) (rest others : List Operand) → o ≡ None → unanswered (Some o) rest ≡ others → [] ≡ others
 none_taken None rest others e h = h

@@ -18,7 +18,7 @@ pub returns-clause-main_alone : goal.returns-clause-main_alone
 returns-clause-main_alone c =
     let p = program_of c.args.turns (operands c.args.unit.now) in
     alone_in c.args.turns (operands c.args.unit.now) c.run_plain.result
-      (c.run_plain.ensures.run p (record { at = c.new-main.ensures.begins p.next 0 [] (begins c.args.turns (operands c.args.unit.now)); outcome = refl }))
+    (c.run_plain.ensures.run p (record { at = c.new-main.ensures.begins p.next 0 [] (begins c.args.turns (operands c.args.unit.now)); outcome = refl }))
 
 pub returns-clause-no_commands : goal.returns-clause-no_commands
 returns-clause-no_commands c = none_in c.args.turns (operands c.args.unit.now) c.run_plain.result
