@@ -1,17 +1,12 @@
 -- A main that prints sums is the one thread, which makes each step.
-use Rattle.std.proofs.Common.{◌≡◌, ℕ, zero, suc, ◌+◌, Bool, true, false, List, [], ◌∷◌, ◌++◌, length, Option, Some, None, refl, sym, ap, ◌∙◌, subst, arith}
+use Rattle.std.proofs.Common.{◌≡◌, ℕ, zero, suc, ◌+◌, Bool, true, false, List, [], ◌∷◌, length, Option, Some, None, refl, sym, ap, ◌∙◌, subst, arith}
 use Rattle.std.proofs.lemmas.List.{length-set, length-map}
-use Rattle.std.proofs.lemmas.Bool.{cases_lt}
-use Rattle.std.specs.Prelude.{◌^◌, ◌&&◌, nat_le, nat_lt, if◌then◌else◌, All, map, slice_get, slice_set}
+use Rattle.std.specs.Prelude.{◌^◌, ◌&&◌, nat_le, nat_lt, if◌then◌else◌, All, slice_get}
 use Rattle.sy_work.specs.Programs.{OutcomeOf, Program}
-use Rattle.sy_work.specs.declared.asks.Ask.{Ask}
-use Rattle.sy_work.specs.declared.asks.Answer.TheVariants.{Done}
-use Rattle.sy_work.specs.declared.endings.Ending.TheVariants.{OutputFull}
 use Rattle.sy_onecopy.specs.declared.Waits.{Waits}
-use Rattle.sy_onecopy.specs.declared.Waits.TheVariants.{Finished}
 use Rattle.sy_onecopy.specs.State.{Board, State, start, next_ask}
-use Rattle.sy_onecopy.specs.Settle.{await, reply, settle, settle_upto}
-use Rattle.sy_onecopy.specs.Step.{printed, stop, begun, give_all, given, apply, turn, step}
+use Rattle.sy_onecopy.specs.Settle.{await, settle, settle_upto}
+use Rattle.sy_onecopy.specs.Step.{printed, begun, give_all, given, apply, turn, step}
 use Rattle.sy_onecopy.specs.Sequence.{goes_on, ready_at, is_clear, may_step, is_legal, seq_from, seq}
 use Rattle.sy_sums.specs.declared.sums.Given.{Given}
 use Rattle.sy_sums.specs.declared.sums.Given.TheVariants.{Number}

@@ -1,7 +1,6 @@
 -- A main that prints sums submits no command.
 use Rattle.std.proofs.Common.{◌≡◌, ℕ, ◌+◌, Bool, true, false, List, [], ◌∷◌, Option, Some, None, refl, ap, ◌∙◌}
-use Rattle.std.specs.Prelude.{length, nat_lt}
-use Rattle.sy_onecopy.specs.State.{State, next_ask}
+use Rattle.sy_onecopy.specs.State.{State}
 use Rattle.sy_onecopy.specs.Step.{step}
 use Rattle.sy_sums.specs.declared.sums.Given.{Given}
 use Rattle.sy_sums.specs.declared.sums.Given.TheVariants.{Number}

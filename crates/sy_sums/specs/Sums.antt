@@ -1,5 +1,5 @@
 -- What a main that prints sums asks.
-use Rattle.std.specs.Prelude.{ℕ, zero, suc, ℤ, pos, Bool, true, false, nat_le, nat_lt, if◌then◌else◌, List, [], ◌∷◌, length, slice_get, filter_map, flat_map, Option, Some, None, option_map, Result, Ok, Err}
+use Rattle.std.specs.Prelude.{ℕ, zero, suc, pos, Bool, true, false, nat_le, nat_lt, if◌then◌else◌, List, [], ◌∷◌, length, slice_get, filter_map, flat_map, Option, Some, None, Result, Ok, Err}
 use Rattle.std.specs.Fmt.{signed_decimal}
 use Rattle.sy_num.specs.declared.BinOp.{BinOp}
 use Rattle.sy_num.specs.declared.BinOp.TheVariants.{Add, Sub}

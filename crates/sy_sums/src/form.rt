@@ -1,7 +1,6 @@
 // Whether a source is a main that prints sums.
 
 ghost use Rattle.std.specs.Prelude.{◌≡◌, option_map, slice_get};
-ghost use Rattle.std.specs.Option.{option_or};
 ghost use Rattle.sy_sums.specs.Form as spec;
 ghost use Rattle.sy_sums.specs.Spots.{item_spot};
 

@@ -4,9 +4,10 @@ ghost use Rattle.std.specs.Prelude.{◌≡◌, ℕ, ℤ, List, [], length, drop,
 ghost use Rattle.std.specs.Fmt.{signed_decimal};
 ghost use Rattle.sy_work.specs.declared.commands.Outcome.TheVariants.{Wrote};
 ghost use Rattle.sy_work.specs.Programs.{NextAsk};
-ghost use Rattle.sy_sums.specs.Hosts.{StandsFor, ahead, open_ask, unanswered};
+ghost use Rattle.sy_sums.specs.Hosts.{StandsFor, ahead, open_ask};
 ghost use Rattle.sy_sums.specs.Sums.{ask_here, operands, statements_of};
 
+use crate::asked::{Asked, kept};
 use crate::places::next_operand;
 use crate::sums::{Given, Operand, statements_of};
 use itoa::Buffer;
@@ -26,15 +27,15 @@ pub struct Sums<'a> {
     done: usize,
     /// How many turns are left.
     left: u64,
-    /// What the open ask prints, if one is open; at the end it prints nothing.
-    asked: Option<Option<Operand>>,
+    /// The ask that is open, if one is.
+    asked: Option<Asked>,
 }
 
 impl<'a> Sums<'a> {
     /// Main at its start.
     pub fn new(alloc: Global, unit: &'a Unit, turns: u64) -> Sums<'a>
         ensures closed { ⟦<Sums<'a> as Host>⟧.pending result ≡ None }
-        ensures begins { (next : NextAsk) (at : ℕ) (captures : List ℤ) → StandsFor next 0 turns (operands unit.now) → ⟦<Sums<'a> as Host>⟧.stands result next at captures [] }
+        ensures begins { (next : NextAsk) (at : ℕ) (captures : List ℤ) → StandsFor next 0 turns None (operands unit.now) → ⟦<Sums<'a> as Host>⟧.stands result next at captures [] }
     {
         Sums {
             alloc,
@@ -80,14 +81,14 @@ impl<'a> Host for Sums<'a> {
 
     ghost left = { λ s. s.left };
 
-    ghost stands = { λ s next at captures answers. StandsFor next (length answers) s.left (unanswered s.asked (ahead s.done (drop s.at (statements_of s.unit.now.items)))) };
+    ghost stands = { λ s next at captures answers. StandsFor next (length answers) s.left s.asked (ahead s.done (drop s.at (statements_of s.unit.now.items))) };
 
     fn next(&mut self, _slice: u32) -> Result<HostStop, AllocError> {
         let found = next_operand(statements_of(self.unit), self.at, self.done);
         let ask = ask_here(self.alloc, 0 < self.left, found.operand)?;
         self.at = found.at;
         self.done = found.done;
-        self.asked = Some(found.operand);
+        self.asked = Some(kept(found.operand));
         Ok(HostStop::Asked(ask))
     }
 

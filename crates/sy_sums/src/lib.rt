@@ -1,6 +1,7 @@
 //! A main that prints sums: whether a source is one, and its run.
 #![tactic(auto)]
 
+mod asked;
 mod form;
 mod host;
 mod numerals;

@@ -1,7 +1,7 @@
 // The next sum that a main prints.
 
 ghost use Rattle.std.specs.Prelude.{◌≡◌, drop, filter_map, Some};
-ghost use Rattle.sy_sums.specs.Hosts.{ahead, unanswered};
+ghost use Rattle.sy_sums.specs.Hosts.{ahead, taken};
 ghost use Rattle.sy_sums.specs.Sums.{operand_of};
 
 use crate::sums::{Operand, operand_of, printed_by};
@@ -24,7 +24,7 @@ pub struct Found {
 
 /// The next sum of a print of which so many items are done.
 fn next_printed(items: &[Printed], done: usize) -> Taken
-    ensures { unanswered (Some result.operand) (filter_map operand_of (drop result.done items.now)) ≡ filter_map operand_of (drop done items.now) }
+    ensures { taken result.operand (filter_map operand_of (drop result.done items.now)) ≡ filter_map operand_of (drop done items.now) }
 {
     for at in done..items.len() {
         if let Some(operand) = operand_of(&items[at]) {
@@ -42,7 +42,7 @@ fn next_printed(items: &[Printed], done: usize) -> Taken
 
 /// The next sum from this statement on, of which so many items are done.
 pub fn next_operand(statements: &[Stmt], at: usize, mut done: usize) -> Found
-    ensures { unanswered (Some result.operand) (ahead result.done (drop result.at statements.now)) ≡ ahead done (drop at statements.now) }
+    ensures { taken result.operand (ahead result.done (drop result.at statements.now)) ≡ ahead done (drop at statements.now) }
 {
     for k in at..statements.len() {
         let taken = next_printed(printed_by(&statements[k]), done);
