@@ -4,6 +4,7 @@
 mod asked;
 mod form;
 mod host;
+mod laws;
 mod numerals;
 mod places;
 mod run;
@@ -13,4 +14,5 @@ mod sums;
 mod tests;
 
 pub use form::first_unbuilt;
+pub use laws::all_is_printed;
 pub use run::run_sums;
