@@ -1,10 +1,8 @@
-pub mod Reading
 pub mod Texts
-pub mod Alone
-pub mod Hosts
 pub mod Stretches
 pub mod Telling
-pub mod Commands
 pub mod Ran
 pub mod Numerals
 pub mod Items
+pub mod Accepting
+pub mod Trees

@@ -3,8 +3,7 @@ use Rattle.std.proofs.Common.{◌≡◌, ℕ, ◌+◌, ◌-◌, ◌*◌, ◌<◌
 use Rattle.std.specs.Prelude.{◌&&◌, ◌||◌, not, length, ◌==◌, if◌then◌else◌}
 use Rattle.std.specs.List.{list_all}
 use Rattle.std.proofs.lemmas.Bool.Decides.{nat_tests}
-use Rattle.sy_top.specs.Front.{is_digit}
-use Rattle.sy_top.specs.Words.{number_of, is_numeral, grown, number_within}
+use Rattle.sy_top.specs.Words.{is_digit, number_of, is_numeral, grown, number_within}
 
 abbrev more : ℕ → ℕ → ℕ
 more n b = 10 * n + (b - 48)

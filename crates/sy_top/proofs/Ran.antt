@@ -13,7 +13,8 @@ use Rattle.sy_top.specs.declared.notes.Ended.{Ended}
 use Rattle.sy_top.specs.declared.notes.Ended.TheVariants as ended
 use Rattle.sy_top.specs.declared.runs.Run.{Run}
 use Rattle.sy_top.specs.Notes.{line_of, tail_of, note_of, has_run, ended_by}
-use Rattle.sy_top.specs.Headline.{Outside, Told, Tells, IsRunOf, Ran, Cause, HasCause, commands, source_limit}
+use Rattle.sy_sums.specs.Commands.{commands}
+use Rattle.sy_top.specs.Headline.{Outside, Told, Tells, IsRunOf, Ran, Cause, HasCause, source_limit}
 use Rattle.sy_top.specs.Judged.{IsReady, Writes}
 
 -- it was written whole, or writing met a fault
@@ -57,6 +58,7 @@ module _ (o : Outside) (set : Settings) (run : Run) (ready : Ready) (bytes : Lis
     whole = whole;
     within = within;
     accepted = is.accepted;
+    only = is.only;
     makes = subst (λ l. IsRun is.program l ready.ending ready.output run.copies) (sym order) (subst (IsRun is.program ready.order.items ready.ending ready.output) (sym copies) is.run);
     main_alone = subst (All (λ t. t ≡ 0)) (sym order) is.main_alone;
     told = subst (Told o run.note) (ap (λ l. line_of run.ended ++ l) tail_is ∙ told_whole set run.ended run.order.items (commands is.program run.order.items) run.copies h) told;

@@ -1,5 +1,5 @@
 -- What a run of the program promises.
-use Rattle.std.specs.Prelude.{◌≡◌, ℕ, ◌+◌, ◌<◌, ◌≤◌, List, [], ◌∷◌, length, Option, Some, IfSome, All, Result, Ok, Err, ⊤}
+use Rattle.std.specs.Prelude.{◌≡◌, ℕ, ◌<◌, ◌≤◌, List, [], length, Option, IfSome, All, Result, Ok, Err, ⊤}
 use Rattle.std.specs.Io.KnownBytes.{Appends, Keeps}
 use Rattle.sy_io.specs.Faults.{Rose}
 use Rattle.sy_io.specs.Known.{AppendsFront}
@@ -8,12 +8,7 @@ use Rattle.sy_note.specs.declared.Diagnostic.{Diagnostic}
 use Rattle.sy_work.specs.declared.endings.Ending.{Ending}
 use Rattle.sy_work.specs.declared.endings.Ending.TheVariants as ending
 use Rattle.sy_work.specs.Programs.{Program}
-use Rattle.sy_work.specs.declared.asks.Ask.{Ask}
-use Rattle.sy_work.specs.declared.asks.Ask.TheVariants.{Submit}
-use Rattle.sy_onecopy.specs.State.{State, start, next_ask}
-use Rattle.sy_onecopy.specs.Step.{step}
 use Rattle.sy_onecopy.specs.Sequence.{IsRun}
-use Rattle.sy_top.specs.declared.form.Piece.{Piece}
 use Rattle.sy_top.specs.declared.jobs.Job.{Job}
 use Rattle.sy_top.specs.declared.jobs.Job.TheVariants.{Check, Serial, Run as JobRun, SelfTest, Replay}
 use Rattle.sy_top.specs.declared.jobs.Settings.{Settings}
@@ -23,15 +18,11 @@ use Rattle.sy_top.specs.declared.notes.Ended.TheVariants as ended
 use Rattle.sy_top.specs.declared.runs.Run.{Run}
 use Rattle.sy_top.specs.declared.runs.Note.{Note}
 use Rattle.sy_top.specs.declared.runs.Note.TheVariants as note
-use Rattle.sy_top.specs.Form.{pieces_of}
-use Rattle.sy_top.specs.Sums.{sums_program}
+use Rattle.sy_sums.specs.Commands.{commands}
+use Rattle.sy_top.specs.Sources.{Accepted, Breaks}
 use Rattle.sy_top.specs.Notes.{line_of, note_of}
 
 -- ---- the source
-
--- the source is accepted, and with so many turns for each thread it is this program
-abbrev pub Accepted : List ℕ → ℕ → Program → Type 0
-Accepted bytes turns p = (pieces : List Piece) × (pieces_of bytes ≡ Some pieces) × (p ≡ sums_program turns pieces)
 
 -- the job runs an accepted source as that program. The other jobs are not built yet
 abbrev pub Runs : Settings → Job → List ℕ → Program → Type 0
@@ -90,25 +81,14 @@ pub record Unread (o : Outside) : Type 0 where
 
 -- ---- runs
 
-abbrev pub is_submit : Ask → ℕ
-is_submit (Submit submission) = 1
-is_submit ask = 0
-
--- how many of the steps submit a command
-abbrev pub submitted : Program → State → List ℕ → ℕ
-submitted p s [] = 0
-submitted p s (t ∷ ts) = is_submit (next_ask p s t) + submitted p (step p s t) ts
-
-abbrev pub commands : Program → List ℕ → ℕ
-commands p order = submitted p (start p) order
-
--- The bytes that were left of the source are accepted with this program. The one-copy machine makes the steps of
--- the order, in which the least thread that may step makes each, and ends so, with this output.
+-- The bytes that were left of the source are accepted with this program and no other. The one-copy machine makes the
+-- steps of the order, in which the least thread that may step makes each, and ends so, with this output.
 pub record IsRunOf (o : Outside) (set : Settings) (p : Program) (run : Run) (end : Ending) (output : List ℕ) : Type 0 where
   pub bytes : List ℕ
   pub whole : IfSome o.left (λ left. bytes ≡ left)
   pub within : length bytes ≤ source_limit
   pub accepted : Runs set set.job bytes p
+  pub only : (q : Program) → Runs set set.job bytes q → q ≡ p
   pub makes : IsRun p run.order.items end output run.copies
   -- there is one thread
   pub main_alone : All (λ t. t ≡ 0) run.order.items
@@ -131,16 +111,21 @@ pub record Broke (o : Outside) (set : Settings) (run : Run) : Type 0 where
   pub written : AppendsFront o.out_old o.out_new output
   pub fault : Rose o.out_before o.out_after
 
--- the diagnostic of what is not built
+-- the diagnostic of a job that is not built
 abbrev pub not_built : Diagnostic
 not_built = record { spot = record { line = 1; column = 1 }; code = NotBuilt }
 
+-- why the job refuses a source
+abbrev pub Rejects : Job → List ℕ → Diagnostic → Type 0
+Rejects Serial bytes d = Breaks bytes d.code d.spot
+Rejects job bytes d = d ≡ not_built
+
 -- the source was read to its end, and no program is accepted with it
 pub record Refuses (o : Outside) (set : Settings) (run : Run) (d : Diagnostic) : Type 0 where
-  pub place : d ≡ not_built
   pub bytes : List ℕ
   pub whole : IfSome o.left (λ left. bytes ≡ left)
   pub within : length bytes ≤ source_limit
+  pub why : Rejects set.job bytes d
   pub refused : (p : Program) → Runs set set.job bytes p → ⊥
   pub untouched : Untouched o run
 

@@ -1,11 +1,12 @@
 -- What is known of a source before its output is written.
-use Rattle.std.specs.Prelude.{◌≡◌, ℕ, Bool, true, false, List, Option, All}
+use Rattle.std.specs.Prelude.{◌≡◌, ℕ, Bool, true, false, List, Option, Some, None, All}
 use Rattle.std.specs.Io.KnownBytes.{Appends}
 use Rattle.sy_io.specs.Faults.{Rose}
 use Rattle.sy_io.specs.Known.{AppendsFront}
 use Rattle.sy_work.specs.declared.endings.Ending.{Ending}
 use Rattle.sy_io.specs.declared.ReadStop.{ReadStop}
 use Rattle.sy_io.specs.declared.ReadStop.TheVariants.{TooLong, Fault, Memory}
+use Rattle.sy_note.specs.declared.Code.TheVariants.{NotBuilt}
 use Rattle.sy_note.specs.declared.Diagnostic.{Diagnostic}
 use Rattle.sy_work.specs.Programs.{Program}
 use Rattle.sy_onecopy.specs.Sequence.{IsRun}
@@ -17,34 +18,43 @@ use Rattle.sy_top.specs.declared.runs.Note.{Note}
 use Rattle.sy_top.specs.declared.runs.Note.TheVariants as note
 use Rattle.sy_top.specs.declared.notes.Ended.{Ended}
 use Rattle.sy_top.specs.declared.notes.Ended.TheVariants as ended
-use Rattle.sy_top.specs.declared.form.Piece.{Piece}
-use Rattle.sy_top.specs.Sums.{sums_program}
-use Rattle.sy_top.specs.Headline.{Runs, not_built, commands}
+use Rattle.sy_sums.specs.Commands.{commands}
+use Rattle.sy_sums.specs.Form.{first_unbuilt}
+use Rattle.sy_sums.specs.Sums.{sums_program}
+use Rattle.sy_tree.specs.declared.tree.Unit.{Unit as SourceUnit}
+use Rattle.sy_top.specs.Headline.{Runs, Rejects}
 use Rattle.sy_top.specs.Notes.{line_of, tail_of, ended_by}
 
 -- the source is accepted, and this is its run
 pub record IsReady (set : Settings) (bytes : List ℕ) (ready : Ready) : Type 0 where
   pub program : Program
   pub accepted : Runs set set.job bytes program
+  pub only : (q : Program) → Runs set set.job bytes q → q ≡ program
   pub run : IsRun program ready.order.items ready.ending ready.output ready.copies
   pub main_alone : All (λ t. t ≡ 0) ready.order.items
   pub line : ready.line.items ≡ line_of (ended_by ready.ending)
   pub tail : ready.tail.items ≡ tail_of set ready.order.items (commands program ready.order.items) ready.copies
 
--- the diagnostic of a form that is not built, with its note
-abbrev pub IsNotBuilt : Diagnostic → List ℕ → Type 0
-IsNotBuilt d note = (d ≡ not_built) × (note ≡ line_of (ended.Refused d))
+-- a refusal with this diagnostic, and its note
+abbrev pub IsRefusal : Diagnostic → Judged → Type 0
+IsRefusal d (Ran ready) = ⊥
+IsRefusal d (Refused e note) = (e ≡ d) × (note.items ≡ line_of (ended.Refused e))
 
--- this is the run of these sums
-pub record IsRunOfSums (set : Settings) (pieces : List Piece) (ready : Ready) : Type 0 where
-  pub run : IsRun (sums_program set.turns pieces) ready.order.items ready.ending ready.output ready.copies
+-- this is the run of this tree
+pub record IsRunOfTree (set : Settings) (unit : SourceUnit) (ready : Ready) : Type 0 where
+  pub run : IsRun (sums_program set.turns unit) ready.order.items ready.ending ready.output ready.copies
   pub main_alone : All (λ t. t ≡ 0) ready.order.items
   pub line : ready.line.items ≡ line_of (ended_by ready.ending)
-  pub tail : ready.tail.items ≡ tail_of set ready.order.items (commands (sums_program set.turns pieces) ready.order.items) ready.copies
+  pub tail : ready.tail.items ≡ tail_of set ready.order.items (commands (sums_program set.turns unit) ready.order.items) ready.copies
+
+-- the tree was run, or has a form that is not built
+abbrev pub JudgesTree : Settings → SourceUnit → Judged → Type 0
+JudgesTree set unit (Ran ready) = (first_unbuilt unit ≡ None) × IsRunOfTree set unit ready
+JudgesTree set unit (Refused d note) = (d.code ≡ NotBuilt) × (first_unbuilt unit ≡ Some d.spot) × (note.items ≡ line_of (ended.Refused d))
 
 abbrev pub Judges : Settings → List ℕ → Judged → Type 0
 Judges set bytes (Ran ready) = IsReady set bytes ready
-Judges set bytes (Refused d note) = (d ≡ not_built) × ((p : Program) → Runs set set.job bytes p → ⊥) × (note.items ≡ line_of (ended.Refused d))
+Judges set bytes (Refused d note) = Rejects set.job bytes d × ((p : Program) → Runs set set.job bytes p → ⊥) × (note.items ≡ line_of (ended.Refused d))
 
 -- the answer where the source was not read
 abbrev pub ended_by_stop : ReadStop → Ended

@@ -1,9 +1,6 @@
-pub mod Front
-pub mod Form
-pub mod Sums
 pub mod Words
 pub mod Notes
+pub mod Sources
 pub mod Headline
 pub mod Judged
 pub mod Trace
-pub mod Hosts

@@ -11,9 +11,11 @@ use Rattle.sy_top.specs.declared.words.Item.{Item}
 use Rattle.sy_top.specs.declared.words.Item.TheVariants.{Mode, Workers, Turns, Seed, Groups, Stats, Trace}
 use Rattle.sy_top.specs.declared.words.Numbered.{Numbered}
 use Rattle.sy_top.specs.declared.words.Numbered.TheVariants as numbered
-use Rattle.sy_top.specs.Front.{is_digit}
 
 -- ---- numbers
+
+abbrev pub is_digit : ℕ → Bool
+is_digit b = nat_le 48 b && nat_le b 57
 
 -- the number that decimal digits write
 abbrev pub number_of : List ℕ → ℕ

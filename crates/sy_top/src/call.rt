@@ -2,21 +2,23 @@
 
 ghost use Rattle.std.specs.Prelude.{◌≡◌, ◌≤◌, [], ◌++◌, length, IfOk};
 ghost use Rattle.sy_top.specs.Headline.{Tells, not_built};
-ghost use Rattle.sy_top.specs.Judged.{Judges, IsNotBuilt, IsRunOfSums, ended_by_stop, is_failed, joined};
+ghost use Rattle.sy_top.specs.Judged.{Judges, JudgesTree, IsRefusal, IsRunOfTree, ended_by_stop, is_failed, joined};
 ghost use Rattle.sy_top.specs.Notes.{line_of};
+ghost use Rattle.sy_top.specs.declared.jobs.Job.TheVariants.{Serial};
 ghost use Rattle.sy_top.specs.declared.notes.Ended.TheVariants as ended;
 
-use crate::form::{Piece, read};
-use crate::host::{NoCommands, Sums};
 use crate::jobs::{Job, Settings};
 use crate::notes::Ended;
 use crate::runs::{Note, Run};
+use crate::source::tree_of;
 use crate::trace::tail;
 use std::alloc::{AllocError, Global};
 use sy_access::Bytes;
 use sy_io::{ReadStop, Sink, write_all};
-use sy_note::{Code, Diagnostic, Spot};
-use sy_plain::{End, run_plain};
+use sy_note::{Code, Diagnostic, FrontStop, Spot};
+use sy_plain::End;
+use sy_sums::{first_unbuilt, run_sums};
+use sy_tree::Unit;
 use sy_work::Ending;
 
 /// A run that is over, before its output is written.
@@ -39,31 +41,30 @@ pub enum Judged {
     Refused(Diagnostic, Vec<u8>),
 }
 
-/// The diagnostic of what isn't built.
+/// The diagnostic of a job that isn't built.
 pub const NOT_BUILT: Diagnostic = Diagnostic {
     spot: Spot::START,
     code: Code::NotBuilt,
 };
 
-/// The source has a form that isn't built.
-fn refuse(alloc: Global) -> Result<(Diagnostic, Vec<u8>), AllocError>
-    ensures { IfOk result (λ r. IsNotBuilt r.0 r.1.items) }
+/// A refusal, with its note.
+fn refuse(alloc: Global, diagnostic: Diagnostic) -> Result<Judged, AllocError>
+    ensures { IfOk result (IsRefusal diagnostic) }
 {
-    let note = Ended::Refused(NOT_BUILT).line(alloc)?;
-    Ok((NOT_BUILT, note))
+    let note = Ended::Refused(diagnostic).line(alloc)?;
+    Ok(Judged::Refused(diagnostic, note))
 }
 
-/// The run of these sums, which submit no command.
-fn run_sums(alloc: Global, pieces: &[Piece], set: &Settings) -> Result<Ready, AllocError>
-    ensures { IfOk result (IsRunOfSums set.now pieces.now) }
+/// The run of a tree, which submits no command.
+fn run_tree(alloc: Global, set: &Settings, unit: &Unit) -> Result<Ready, AllocError>
+    ensures { IfOk result (IsRunOfTree set.now unit.now) }
 {
-    let main = Sums::new(alloc, pieces, set.turns);
     let End {
         ending,
         order,
         output,
         copies,
-    } = run_plain(alloc, main, &NoCommands { alloc })?;
+    } = run_sums(alloc, unit, set.turns)?;
     let line = Ended::by(ending).line(alloc)?;
     let tail = tail(alloc, set, order.as_slice(), 0, copies)?;
     Ok(Ready {
@@ -76,23 +77,43 @@ fn run_sums(alloc: Global, pieces: &[Piece], set: &Settings) -> Result<Ready, Al
     })
 }
 
-/// Reads the form of a source, and runs it.
+/// Runs a tree whose forms are all built.
+fn judge_tree(alloc: Global, set: &Settings, unit: &Unit) -> Result<Judged, AllocError>
+    ensures { IfOk result (JudgesTree set.now unit.now) }
+{
+    match first_unbuilt(unit) {
+        Some(spot) => refuse(
+            alloc,
+            Diagnostic {
+                spot,
+                code: Code::NotBuilt,
+            },
+        ),
+        None => Ok(Judged::Ran(run_tree(alloc, set, unit)?)),
+    }
+}
+
+/// Reads the tree of a source, and runs it.
+fn judge_source(alloc: Global, set: &Settings, bytes: &[u8]) -> Result<Judged, AllocError>
+    requires bytes { length bytes.now ≤ 1048576 }
+    requires job { set.now.job ≡ Serial }
+    ensures { IfOk result (Judges set.now bytes.now) }
+{
+    match tree_of(alloc, bytes) {
+        Ok(unit) => judge_tree(alloc, set, &unit),
+        Err(FrontStop::Refused(diagnostic)) => refuse(alloc, diagnostic),
+        Err(FrontStop::Memory) => Err(AllocError),
+    }
+}
+
+/// Does a job over a source that was read.
 pub fn judge(alloc: Global, set: &Settings, bytes: &[u8]) -> Result<Judged, AllocError>
     requires { length bytes.now ≤ 1048576 }
     ensures { IfOk result (Judges set.now bytes.now) }
 {
     match set.job {
-        Job::Serial => match read(alloc, bytes)? {
-            Some(pieces) => Ok(Judged::Ran(run_sums(alloc, pieces.as_slice(), set)?)),
-            None => {
-                let (diagnostic, note) = refuse(alloc)?;
-                Ok(Judged::Refused(diagnostic, note))
-            }
-        },
-        _ => {
-            let (diagnostic, note) = refuse(alloc)?;
-            Ok(Judged::Refused(diagnostic, note))
-        }
+        Job::Serial => judge_source(alloc, set, bytes),
+        _ => refuse(alloc, NOT_BUILT),
     }
 }
 

@@ -1,6 +1,6 @@
 //! The top call: all that the program does, over a source and sinks of bytes.
 //!
-//! It reads the words and the source, runs the source, and writes its output and a note. The one
+//! It reads the words and the source, finds its tokens and its tree, runs it, and writes its output and a note. The one
 //! form that is built so far is a main that prints sums.
 #![tactic(auto)]
 
@@ -13,13 +13,10 @@ ghost use Rattle.sy_top.specs.Notes.{ended_by, line_of};
 ghost use Rattle.sy_top.specs.Words.{words_of};
 
 mod call;
-mod form;
-mod front;
-mod host;
 mod jobs;
 mod notes;
 mod runs;
-mod sums;
+mod source;
 mod trace;
 mod words;
 

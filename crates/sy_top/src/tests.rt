@@ -161,45 +161,171 @@ fn runs(rt: HostRuntime) -> Result<(), Fail> {
     Ok(())
 }
 
+/// A refusal by this rule at this place of the first line.
+fn refused(code: Code, column: u32) -> Ended {
+    Ended::Refused(Diagnostic {
+        spot: Spot { line: 1, column },
+        code,
+    })
+}
+
+// Sources of one line, each with the rule that refuses it and the column.
 #[test]
 fn refuses(rt: HostRuntime) -> Result<(), Fail> {
-    let cases: [&[u8]; 26] = [
-        b"",
-        b"int main(){ return 1; }",
-        b"int main(){ std::cout; }",
-        b"int main(){ std::cout << ; }",
-        b"int main(){ std::cout << 1 }",
-        b"int main(){ std::cout << 1; ",
-        b"int main(){ std::cout << 1; } int",
-        b"int main(){ std::cout << 08; }",
-        b"int main(){ std::cout << 00; }",
-        b"int main(){ std::cout << 0x1; }",
-        b"int main(){ std::cout << 1u; }",
-        b"int main(){ std::cout << 1000000000000000000; }",
-        b"int main(){ std::cout << 1 ++ 2; }",
-        b"int main(){ std::cout << 1 -= 2; }",
-        b"int main(){ std::cout << 1 + + 2; }",
-        b"int main(){ std::cout << -1; }",
-        b"int main(){ std::cout <<= 1; }",
-        b"int main(){ std::cout < < 1; }",
-        b"int main(){ std:cout << 1; }",
-        b"int main(){ std:::cout << 1; }",
-        b"intmain(){}",
-        b"int main(){ /* }",
-        b"int main(){ / }",
-        b"#include <map>\nint main(){}",
-        b"#include\n<vector>\nint main(){}",
-        b"int main(){} #include <vector>",
+    let cases: [(&[u8], Code, u32); 33] = [
+        // no-text
+        (b"", Code::Grammar, 1),
+        (b"int main(){ std::cout << \"ab", Code::Lexical, 26),
+        (b"int main(){ std::cout << 08; }", Code::Lexical, 26),
+        (b"int main(){ /* }", Code::Lexical, 13),
+        (b"#include <map>\nint main(){}", Code::Lexical, 1),
+        (b"#include\n<vector>\nint main(){}", Code::Lexical, 1),
+        // no-tree
+        (b"int main(){ return 1 + * 2; }", Code::Grammar, 24),
+        (b"int main(){ std::cout; }", Code::Grammar, 22),
+        (b"int main(){ std::cout << ; }", Code::Grammar, 26),
+        (b"int main(){ std::cout << 1 }", Code::Grammar, 28),
+        (b"int main(){ std::cout << 1; ", Code::Grammar, 29),
+        (b"int main(){ std::cout << 1; } int", Code::Grammar, 34),
+        (b"int main(){ std::cout << 1 ++ 2; }", Code::Grammar, 31),
+        (b"int main(){ std::cout << 1 -= 2; }", Code::Grammar, 28),
+        (b"int main(){ std::cout <<= 1; }", Code::Grammar, 23),
+        (b"int main(){ std::cout < < 1; }", Code::Grammar, 23),
+        (b"int main(){ std:cout << 1; }", Code::Grammar, 16),
+        (b"int main(){ std:::cout << 1; }", Code::Grammar, 18),
+        (b"intmain(){}", Code::Grammar, 1),
+        (b"int main(){ / }", Code::Grammar, 13),
+        (b"int main(){} #include <vector>", Code::Grammar, 14),
+        // forms that aren't built
+        (b"using namespace sycl; int main(){}", Code::NotBuilt, 1),
+        (b"int main(){ return 1; }", Code::NotBuilt, 13),
+        (b"int main(){ std::cout << 1 << 0x1; }", Code::NotBuilt, 31),
+        (b"int main(){ std::cout << 00; }", Code::NotBuilt, 26),
+        (b"int main(){ std::cout << 1u; }", Code::NotBuilt, 26),
+        (
+            b"int main(){ std::cout << 1000000000000000000; }",
+            Code::NotBuilt,
+            26,
+        ),
+        (b"int main(){ std::cout << 1 + + 2; }", Code::NotBuilt, 30),
+        (b"int main(){ std::cout << -1; }", Code::NotBuilt, 26),
+        (b"int main(){ std::cout << 1 << 'a'; }", Code::NotBuilt, 31),
+        (
+            b"int main(){ std::cout << 1 << std::endl; }",
+            Code::NotBuilt,
+            31,
+        ),
+        (b"int main(int n){ std::cout << 1; }", Code::NotBuilt, 1),
+        (
+            b"int main(){ std::cout << 1; } int f(){}",
+            Code::NotBuilt,
+            31,
+        ),
     ];
-    for source in cases {
+    for (source, code, column) in cases {
         let (run, out, err) = serial(&rt, source, &CLEAN)?;
-        assert_eq!(rt; run.ended, NOT_BUILT);
+        assert_eq!(rt; run.ended, refused(code, column));
         assert_eq!(rt; run.status(), 124);
         assert!(rt; run.order.is_empty());
         assert!(rt; out.is_empty());
-        assert_eq!(rt; err.as_slice(), b"syclrun: 1:1: not built\n".as_slice());
+        assert!(rt; err.as_slice().starts_with(b"syclrun: 1:"));
         assert_eq!(rt; run.note, Note::Written);
     }
+    Ok(())
+}
+
+// The notes of the three rules, as a person reads them.
+#[test]
+fn notes_of_refusals(rt: HostRuntime) -> Result<(), Fail> {
+    let cases: [(&[u8], &str); 3] = [
+        (
+            b"int main(){ std::cout << \"ab",
+            "syclrun: 1:26: no token\n",
+        ),
+        (
+            b"int main(){\n  return 1 + * 2; }",
+            "syclrun: 2:14: not in the grammar\n",
+        ),
+        (b"int main(){\n  return 1; }", "syclrun: 2:3: not built\n"),
+    ];
+    for (source, note) in cases {
+        let (_, _, err) = serial(&rt, source, &CLEAN)?;
+        assert_eq!(rt; err.as_slice(), note.as_bytes());
+    }
+    Ok(())
+}
+
+// height: 61 pairs of parentheses round a number make a tree of height 64, 62 pairs one that is too high
+#[test]
+fn heights(rt: HostRuntime) -> Result<(), Fail> {
+    let alloc = rt.alloc();
+    for (pairs, code) in [(61, Code::NotBuilt), (62, Code::Grammar)] {
+        let mut source = b"int main() { return ".to_vec(alloc)?;
+        for _ in 0..pairs {
+            source.push(b'(')?;
+        }
+        source.push(b'1')?;
+        for _ in 0..pairs {
+            source.push(b')')?;
+        }
+        source.extend_from_slice(b"; }")?;
+        let (run, _, _) = serial(&rt, source.as_slice(), &CLEAN)?;
+        match run.ended {
+            Ended::Refused(diagnostic) => assert_eq!(rt; diagnostic.code, code),
+            _ => return Err(Fail::from("taken")),
+        }
+    }
+    Ok(())
+}
+
+const REVERSE_IN_GROUPS: &[u8] = b"#include <sycl/sycl.hpp>
+#include <iostream>
+#include <vector>
+using namespace sycl;
+int main() {
+  std::vector<int> v;
+  for (int i = 0; i < 16; ++i) v.push_back(i);
+  queue q;
+  {
+    buffer b{v};
+    q.submit([&](handler& h) {
+      accessor a{b, h};
+      local_accessor<int> l{range<1>{8}, h};
+      h.parallel_for(nd_range<1>{range<1>{16}, range<1>{8}}, [=](nd_item<1> it) {
+        size_t g = it.get_global_id(0);
+        size_t k = it.get_local_id(0);
+        l[k] = a[g];
+        group_barrier(it.get_group());
+        a[g] = l[7 - k];
+      });
+    });
+  }
+  for (int x : v) std::cout << x << ' ';
+}
+";
+
+// every-prefix: what ends before the last `}` has no tokens or no tree
+#[test]
+fn every_prefix(rt: HostRuntime) -> Result<(), Fail> {
+    let whole = REVERSE_IN_GROUPS.len();
+    for len in 0..whole - 2 {
+        let (run, out, _) = serial(&rt, &REVERSE_IN_GROUPS[..len], &CLEAN)?;
+        match run.ended {
+            Ended::Refused(diagnostic) => {
+                assert!(rt; diagnostic.code == Code::Lexical || diagnostic.code == Code::Grammar)
+            }
+            _ => return Err(Fail::from("taken")),
+        }
+        assert!(rt; out.is_empty());
+    }
+    let (run, _, _) = serial(&rt, REVERSE_IN_GROUPS, &CLEAN)?;
+    assert_eq!(rt;
+        run.ended,
+        Ended::Refused(Diagnostic {
+            spot: Spot { line: 4, column: 1 },
+            code: Code::NotBuilt
+        })
+    );
     Ok(())
 }
 

@@ -2,10 +2,9 @@
 
 ghost use Rattle.std.specs.Prelude.{◌≡◌, ◌≤◌, ◌+◌, ℕ, [], length, drop, map, string_bytes, fold, Some, Err, option_to_list, MatchResult};
 ghost use Rattle.std.specs.List.{list_all};
-ghost use Rattle.sy_top.specs.Front as front;
+ghost use Rattle.std.specs.Str.{bytes_eq};
 ghost use Rattle.sy_top.specs.Words as spec;
 
-use crate::front::is_text;
 use crate::jobs::{Job, Settings};
 
 /// The words are none that the program takes.
@@ -55,14 +54,20 @@ const NOTHING: Given = Given {
     trace: false,
 };
 
+fn is_text(a: &[u8], b: &[u8]) -> bool
+    ensures { result ≡ bytes_eq a.now b.now }
+{
+    a == b
+}
+
 fn is_digit(b: u8) -> bool
-    ensures { result ≡ front.is_digit b }
+    ensures { result ≡ spec.is_digit b }
 {
     b'0' <= b && b <= b'9'
 }
 
 fn are_digits(text: &[u8]) -> bool
-    ensures { result ≡ list_all front.is_digit text.now }
+    ensures { result ≡ list_all spec.is_digit text.now }
 {
     text.iter().all(|b| is_digit(*b))
 }

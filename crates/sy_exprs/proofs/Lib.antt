@@ -1,0 +1,3 @@
+mod Identity
+mod Options
+mod Subscript

@@ -1,0 +1,30 @@
+use Rattle.std.proofs.Common.{rules, arith}
+use Rattle.std.proofs.lemmas.Grind.{common_steps}
+use Rattle.sy_reading.specs.Input.{listed}
+use Rattle.sy_reading.specs.Reading.{read_expr}
+use Rattle.sy_cursor.proofs.Turns.{one_more, no_more}
+use Rattle.sy_exprs.proofs.grammar.Grammar.expr_list.Goals as goal
+
+pub returns-in_err-item : goal.returns-in_err-item
+unfolding listed
+returns-in_err-item g c =
+    let e = one_more (λ n. listed (read_expr c.args.self.now.depth 1) n c.loop-turn.items c.loop-turn.height c.loop-turn.tokens.rest.now) _ c.loop-turn._turn c.loop-turn-test.true c.loop-turn.invariant in
+    first_of (search rules, grind (arith, common_steps))
+
+pub returns-then-not-eat : goal.returns-then-not-eat
+unfolding listed
+returns-then-not-eat g c =
+    let e = one_more (λ n. listed (read_expr c.args.self.now.depth 1) n c.loop-turn.items c.loop-turn.height c.loop-turn.tokens.rest.now) _ c.loop-turn._turn c.loop-turn-test.true c.loop-turn.invariant in
+    first_of (search rules, grind (arith, common_steps))
+
+pub loop-turn-preserved : goal.loop-turn-preserved
+unfolding listed
+loop-turn-preserved g c =
+    let e = one_more (λ n. listed (read_expr c.args.self.now.depth 1) n c.loop-turn.items c.loop-turn.height c.loop-turn.tokens.rest.now) _ c.loop-turn._turn c.loop-turn-test.true c.loop-turn.invariant in
+    first_of (search rules, grind (arith, common_steps))
+
+pub returns : goal.returns
+unfolding listed
+returns g c =
+    let e = no_more (λ n. listed (read_expr c.args.self.now.depth 1) n c.loop-turn.items c.loop-turn.height c.loop-turn.tokens.rest.now) _ c.loop-turn._turn c.loop-turn-test.false c.loop-turn.invariant in
+    first_of (search rules, grind (arith, common_steps))

@@ -1,0 +1,72 @@
+//! Blocks and lambdas.
+
+ghost use Rattle.std.specs.Prelude.{[], length};
+ghost use Rattle.sy_cursor.specs.Reads.{Reads};
+ghost use Rattle.sy_exprs.specs.Nests.{Nests};
+ghost use Rattle.sy_reading.specs.Exprs as exprs;
+ghost use Rattle.sy_reading.specs.Reading.{read_expr, read_stmt};
+
+use crate::grammar::Grammar;
+use sqlite_items::Items;
+use sy_cursor::{Stop, Tall, Tokens, captures, grown, maybe_parameters};
+use sy_lex::Row;
+use sy_tree::{Block, Expr, Lambda, Stmt};
+
+impl<
+    E: Fn(&mut Tokens<'_>, usize, u8) -> Result<Tall<Expr>, Stop>,
+    S: Fn(&mut Tokens<'_>, usize) -> Result<Tall<Stmt>, Stop>,
+> Grammar<E, S> {
+    fn statements(&self, tokens: &mut Tokens<'_>) -> Result<Tall<Items<Stmt>>, Stop>
+        requires { Nests self.now.depth (E.pre self.now.expr) (E.post self.now.expr) (S.pre self.now.stmt) (S.post self.now.stmt) }
+        ensures { Reads (exprs.statements (read_expr self.now.depth) (read_stmt self.now.depth) (length tokens.old.rest.now) [] 0 tokens.old.rest.now) result tokens.new.rest.now }
+    {
+        let mut items = Items::new(tokens.alloc);
+        let mut height = 0;
+        for _turn in 0..tokens.left() {
+            if tokens.sees(Row::Mark, b"}") {
+                return Ok((items, height));
+            }
+            let (item, tall) = self.sub_stmt(tokens)?;
+            items.push(item)?;
+            height = height.max(tall);
+        }
+        Err(Stop::Grammar)
+    }
+
+    /// Statements in braces.
+    #[tactic(auto, unfolding(sy_reading::specs::Exprs::one_block))]
+    pub fn one_block(&self, tokens: &mut Tokens<'_>) -> Result<Tall<Block>, Stop>
+        requires { Nests self.now.depth (E.pre self.now.expr) (E.post self.now.expr) (S.pre self.now.stmt) (S.post self.now.stmt) }
+        ensures { Reads (exprs.one_block (read_expr self.now.depth) (read_stmt self.now.depth) tokens.old.rest.now) result tokens.new.rest.now }
+    {
+        let spot = tokens.expect(Row::Mark, b"{")?;
+        let (statements, height) = self.statements(tokens)?;
+        let close = tokens.expect(Row::Mark, b"}")?;
+        let block = Block {
+            spot,
+            statements,
+            close,
+        };
+        grown(tokens, block, height)
+    }
+
+    /// Captures in brackets, parameters or none, and a block.
+    #[tactic(auto, unfolding(sy_reading::specs::Exprs::one_lambda))]
+    pub fn one_lambda(&self, tokens: &mut Tokens<'_>) -> Result<Tall<Lambda>, Stop>
+        requires { Nests self.now.depth (E.pre self.now.expr) (E.post self.now.expr) (S.pre self.now.stmt) (S.post self.now.stmt) }
+        ensures { Reads (exprs.one_lambda (read_expr self.now.depth) (read_stmt self.now.depth) tokens.old.rest.now) result tokens.new.rest.now }
+    {
+        let spot = tokens.expect(Row::Mark, b"[")?;
+        let (captures, _none) = captures(tokens)?;
+        tokens.expect(Row::Mark, b"]")?;
+        let parameters = maybe_parameters(tokens)?;
+        let (body, height) = self.one_block(tokens)?;
+        let lambda = Lambda {
+            spot,
+            captures,
+            parameters,
+            body,
+        };
+        grown(tokens, lambda, height)
+    }
+}

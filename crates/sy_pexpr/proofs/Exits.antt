@@ -1,0 +1,15 @@
+-- The exit of a `?`.
+use Rattle.std.proofs.Common.{◌≡◌, List, Option, None, Result, sym, ◌∙◌, subst}
+use Rattle.std.specs.Prelude.{◌≢◌}
+use Rattle.std.specs.Result.{IsErrAnd}
+use Rattle.std.proofs.lemmas.Result.{err_from_is_err_and}
+use Rattle.sy_lex.specs.declared.Token.{Token}
+use Rattle.sy_cursor.specs.declared.cursor.Stop.{Stop}
+use Rattle.sy_cursor.specs.declared.cursor.Stop.TheVariants.{Memory}
+use Rattle.sy_cursor.specs.Reads.{Reads}
+
+pub err_exit : {A : Type 0} (answer : Option (A × List Token)) (r : Result A Stop) (new : List Token) (e : Stop) →
+    IsErrAnd r (λ y. y ≡ e) → (e ≢ Memory → answer ≡ None) → Reads answer r new
+err_exit {A} answer r new e is none =
+    let p = err_from_is_err_and {T = A} {E = Stop} {Q = λ y. y ≡ e} r is in
+    subst (λ q. Reads answer q new) (sym p.1) (λ ne. none (λ m. ne (p.2 ∙ m)))

@@ -1,0 +1,16 @@
+use Rattle.std.proofs.Common.{refl}
+use Rattle.sy_reading.specs.Stmts.{integer_vector}
+use Rattle.sy_pexpr.proofs.Exits.{err_exit}
+use Rattle.sy_pexpr.proofs.statements.Statements.integer_vector.Goals as goal
+
+pub returns-in_err-initializer : goal.returns-in_err-initializer
+unfolding integer_vector
+returns-in_err-initializer g c = err_exit _ _ _ _ c.from_residual-in_err-initializer.ensures.1 (λ ne. rw (c.in_ok-element.ensures, c.in_ok-expect.ensures, c.in_ok-name.ensures, c.in_err-initializer.ensures ne) refl)
+
+pub returns-in_err-end : goal.returns-in_err-end
+unfolding integer_vector
+returns-in_err-end g c = err_exit _ _ _ _ c.from_residual-in_err-end.ensures.1 (λ ne. rw (c.in_ok-element.ensures, c.in_ok-expect.ensures, c.in_ok-name.ensures, c.in_ok-initializer.ensures, c.in_err-end.ensures ne) refl)
+
+pub returns : goal.returns
+unfolding integer_vector
+returns g c = rw (c.in_ok-element.ensures, c.in_ok-expect.ensures, c.in_ok-name.ensures, c.in_ok-initializer.ensures, c.in_ok-end.ensures) refl

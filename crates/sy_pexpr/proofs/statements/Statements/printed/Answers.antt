@@ -1,0 +1,30 @@
+use Rattle.std.proofs.Common.{rules, arith}
+use Rattle.std.proofs.lemmas.Grind.{common_steps}
+use Rattle.sy_reading.specs.Stmts.{printed}
+use Rattle.sy_reading.specs.Reading.{read_expr, read_stmt}
+use Rattle.sy_cursor.proofs.Turns.{one_more, no_more}
+use Rattle.sy_pexpr.proofs.statements.Statements.printed.Goals as goal
+
+pub returns-in_err-item : goal.returns-in_err-item
+unfolding printed
+returns-in_err-item g c =
+    let e = one_more (λ n. printed (read_expr c.args.self.now.below.depth) (read_stmt c.args.self.now.below.depth) n c.loop-turn.items c.loop-turn.height c.loop-turn.tokens.rest.now) _ c.loop-turn._turn c.loop-turn-test.true c.loop-turn.invariant in
+    first_of (search rules, grind (arith, common_steps))
+
+pub returns-then-not-sees : goal.returns-then-not-sees
+unfolding printed
+returns-then-not-sees g c =
+    let e = one_more (λ n. printed (read_expr c.args.self.now.below.depth) (read_stmt c.args.self.now.below.depth) n c.loop-turn.items c.loop-turn.height c.loop-turn.tokens.rest.now) _ c.loop-turn._turn c.loop-turn-test.true c.loop-turn.invariant in
+    first_of (search rules, grind (arith, common_steps))
+
+pub loop-turn-preserved : goal.loop-turn-preserved
+unfolding printed
+loop-turn-preserved g c =
+    let e = one_more (λ n. printed (read_expr c.args.self.now.below.depth) (read_stmt c.args.self.now.below.depth) n c.loop-turn.items c.loop-turn.height c.loop-turn.tokens.rest.now) _ c.loop-turn._turn c.loop-turn-test.true c.loop-turn.invariant in
+    first_of (search rules, grind (arith, common_steps))
+
+pub returns : goal.returns
+unfolding printed
+returns g c =
+    let e = no_more (λ n. printed (read_expr c.args.self.now.below.depth) (read_stmt c.args.self.now.below.depth) n c.loop-turn.items c.loop-turn.height c.loop-turn.tokens.rest.now) _ c.loop-turn._turn c.loop-turn-test.false c.loop-turn.invariant in
+    first_of (search rules, grind (arith, common_steps))

@@ -1,0 +1,285 @@
+//! The rules of declarations.
+
+ghost use Rattle.std.specs.Prelude.{◌≡◌, [], length};
+ghost use Rattle.sy_reading.specs.Input as input;
+ghost use Rattle.sy_reading.specs.Reading.{read_expr, read_stmt};
+ghost use Rattle.sy_cursor.specs.Reads.{Reads};
+ghost use Rattle.sy_exprs.specs.Nests.{Nests};
+ghost use Rattle.sy_reading.specs.Stmts as stmts;
+ghost use Rattle.sy_pexpr.specs.Rests as rests;
+
+use crate::statements::Statements;
+use sqlite_items::Items;
+use sy_cursor::{
+    Stop, Tall, Tokens, closed, const_specifier, integral, object_type, opened, qualified,
+    type_specifier,
+};
+use sy_lex::Row;
+use sy_tree::{
+    Argument, Brackets, Declaration, Declarator, Expr, Initializer, Lexeme, Qualified, Stmt,
+};
+
+impl<
+    E: Fn(&mut Tokens<'_>, usize, u8) -> Result<Tall<Expr>, Stop>,
+    S: Fn(&mut Tokens<'_>, usize) -> Result<Tall<Stmt>, Stop>,
+> Statements<E, S> {
+    #[tactic(auto, unfolding(sy_reading::specs::Stmts::bracketed_declarator))]
+    pub fn bracketed_declarator(
+        &self,
+        tokens: &mut Tokens<'_>,
+        name: Lexeme,
+    ) -> Result<Tall<Declarator>, Stop>
+        requires { Nests self.now.below.depth (E.pre self.now.below.expr) (E.post self.now.below.expr) (S.pre self.now.below.stmt) (S.post self.now.below.stmt) }
+        ensures { Reads (stmts.bracketed_declarator (read_expr self.now.below.depth) (read_stmt self.now.below.depth) name tokens.old.rest.now) result tokens.new.rest.now }
+    {
+        let (brackets, open) = opened(tokens)?;
+        let (value, height) = self.below.sub_expr(tokens, 1)?;
+        let close = closed(tokens, brackets)?;
+        Ok((
+            Declarator::Bracketed(name, brackets, open, value, close),
+            height,
+        ))
+    }
+
+    #[tactic(auto, unfolding(sy_reading::specs::Stmts::equal_declarator))]
+    pub fn equal_declarator(
+        &self,
+        tokens: &mut Tokens<'_>,
+        name: Lexeme,
+    ) -> Result<Tall<Declarator>, Stop>
+        requires { Nests self.now.below.depth (E.pre self.now.below.expr) (E.post self.now.below.expr) (S.pre self.now.below.stmt) (S.post self.now.below.stmt) }
+        ensures { Reads (stmts.equal_declarator (read_expr self.now.below.depth) (read_stmt self.now.below.depth) name tokens.old.rest.now) result tokens.new.rest.now }
+    {
+        let spot = tokens.expect(Row::Mark, b"=")?;
+        let (value, height) = self.below.sub_expr(tokens, 1)?;
+        Ok((Declarator::Equal(name, spot, value), height))
+    }
+
+    #[tactic(auto, unfolding(sy_reading::specs::Stmts::one_declarator))]
+    pub fn one_declarator(&self, tokens: &mut Tokens<'_>) -> Result<Tall<Declarator>, Stop>
+        requires { Nests self.now.below.depth (E.pre self.now.below.expr) (E.post self.now.below.expr) (S.pre self.now.below.stmt) (S.post self.now.below.stmt) }
+        ensures { Reads (stmts.one_declarator (read_expr self.now.below.depth) (read_stmt self.now.below.depth) tokens.old.rest.now) result tokens.new.rest.now }
+    {
+        let name = tokens.lexed(Row::Ident)?;
+        if tokens.sees(Row::Mark, b"=") {
+            self.equal_declarator(tokens, name)
+        } else if tokens.sees(Row::Mark, b"(") || tokens.sees(Row::Mark, b"{") {
+            self.bracketed_declarator(tokens, name)
+        } else {
+            Ok((Declarator::Uninitialized(name), 0))
+        }
+    }
+
+    pub fn declarator_list(&self, tokens: &mut Tokens<'_>) -> Result<Tall<Items<Declarator>>, Stop>
+        requires { Nests self.now.below.depth (E.pre self.now.below.expr) (E.post self.now.below.expr) (S.pre self.now.below.stmt) (S.post self.now.below.stmt) }
+        ensures { Reads (input.listed (stmts.one_declarator (read_expr self.now.below.depth) (read_stmt self.now.below.depth)) (length tokens.old.rest.now) [] 0 tokens.old.rest.now) result tokens.new.rest.now }
+    {
+        let mut items = Items::new(tokens.alloc);
+        let mut height = 0;
+        for _turn in 0..tokens.left() {
+            let (item, tall) = self.one_declarator(tokens)?;
+            items.push(item)?;
+            height = height.max(tall);
+            if !tokens.eat(Row::Mark, b",") {
+                return Ok((items, height));
+            }
+        }
+        Err(Stop::Grammar)
+    }
+
+    #[tactic(auto, unfolding(sy_reading::specs::Stmts::integers))]
+    pub fn integers(&self, tokens: &mut Tokens<'_>) -> Result<Tall<Declaration>, Stop>
+        requires { Nests self.now.below.depth (E.pre self.now.below.expr) (E.post self.now.below.expr) (S.pre self.now.below.stmt) (S.post self.now.below.stmt) }
+        ensures { Reads (stmts.integers (read_expr self.now.below.depth) (read_stmt self.now.below.depth) tokens.old.rest.now) result tokens.new.rest.now }
+    {
+        let specifier = const_specifier(tokens)?;
+        let of = type_specifier(tokens)?;
+        let (items, height) = self.declarator_list(tokens)?;
+        let end = tokens.expect(Row::Mark, b";")?;
+        Ok((Declaration::Integers(specifier, of, items, end), height))
+    }
+
+    /// The arguments of an initializer: none only in braces.
+    #[tactic(auto, unfolding(sy_reading::specs::Stmts::direct_arguments))]
+    pub fn direct_arguments(
+        &self,
+        tokens: &mut Tokens<'_>,
+        brackets: Brackets,
+    ) -> Result<Tall<Items<Argument>>, Stop>
+        requires { Nests self.now.below.depth (E.pre self.now.below.expr) (E.post self.now.below.expr) (S.pre self.now.below.stmt) (S.post self.now.below.stmt) }
+        ensures { Reads (stmts.direct_arguments (read_expr self.now.below.depth) (read_stmt self.now.below.depth) brackets tokens.old.rest.now) result tokens.new.rest.now }
+    {
+        match brackets {
+            Brackets::Parentheses => self.below.argument_list(tokens),
+            Brackets::Braces => self.below.arguments(tokens, b"}"),
+        }
+    }
+
+    #[tactic(auto, unfolding(sy_reading::specs::Stmts::direct))]
+    pub fn direct(&self, tokens: &mut Tokens<'_>) -> Result<Tall<Initializer>, Stop>
+        requires { Nests self.now.below.depth (E.pre self.now.below.expr) (E.post self.now.below.expr) (S.pre self.now.below.stmt) (S.post self.now.below.stmt) }
+        ensures { Reads (stmts.direct (read_expr self.now.below.depth) (read_stmt self.now.below.depth) tokens.old.rest.now) result tokens.new.rest.now }
+    {
+        let (brackets, open) = opened(tokens)?;
+        let (items, height) = self.direct_arguments(tokens, brackets)?;
+        let close = closed(tokens, brackets)?;
+        Ok((Initializer::Direct(brackets, open, items, close), height))
+    }
+
+    #[tactic(auto, unfolding(sy_reading::specs::Stmts::maybe_initializer))]
+    pub fn maybe_initializer(
+        &self,
+        tokens: &mut Tokens<'_>,
+    ) -> Result<Tall<Option<Initializer>>, Stop>
+        requires { Nests self.now.below.depth (E.pre self.now.below.expr) (E.post self.now.below.expr) (S.pre self.now.below.stmt) (S.post self.now.below.stmt) }
+        ensures { Reads (stmts.maybe_initializer (read_expr self.now.below.depth) (read_stmt self.now.below.depth) tokens.old.rest.now) result tokens.new.rest.now }
+    {
+        if tokens.sees(Row::Mark, b"=") {
+            let spot = tokens.expect(Row::Mark, b"=")?;
+            let (value, height) = self.below.sub_expr(tokens, 1)?;
+            Ok((Some(Initializer::Copy(spot, value)), height))
+        } else if tokens.sees(Row::Mark, b"(") || tokens.sees(Row::Mark, b"{") {
+            let (initializer, height) = self.direct(tokens)?;
+            Ok((Some(initializer), height))
+        } else {
+            Ok((None, 0))
+        }
+    }
+
+    #[tactic(auto, unfolding(sy_reading::specs::Stmts::object_declaration))]
+    pub fn object_declaration(&self, tokens: &mut Tokens<'_>) -> Result<Tall<Declaration>, Stop>
+        requires { Nests self.now.below.depth (E.pre self.now.below.expr) (E.post self.now.below.expr) (S.pre self.now.below.stmt) (S.post self.now.below.stmt) }
+        ensures { Reads (stmts.object_declaration (read_expr self.now.below.depth) (read_stmt self.now.below.depth) tokens.old.rest.now) result tokens.new.rest.now }
+    {
+        let object = object_type(tokens)?;
+        let name = tokens.lexed(Row::Ident)?;
+        let (initializer, height) = self.maybe_initializer(tokens)?;
+        let end = tokens.expect(Row::Mark, b";")?;
+        Ok((Declaration::Object(object, name, initializer, end), height))
+    }
+
+    #[tactic(auto, unfolding(sy_reading::specs::Stmts::integer_vector))]
+    pub fn integer_vector(
+        &self,
+        tokens: &mut Tokens<'_>,
+        vector: Qualified,
+    ) -> Result<Tall<Declaration>, Stop>
+        requires { Nests self.now.below.depth (E.pre self.now.below.expr) (E.post self.now.below.expr) (S.pre self.now.below.stmt) (S.post self.now.below.stmt) }
+        ensures { Reads (stmts.integer_vector (read_expr self.now.below.depth) (read_stmt self.now.below.depth) vector tokens.old.rest.now) result tokens.new.rest.now }
+    {
+        let element = integral(tokens)?;
+        tokens.expect(Row::Mark, b">")?;
+        let name = tokens.lexed(Row::Ident)?;
+        let (initializer, height) = self.maybe_initializer(tokens)?;
+        let end = tokens.expect(Row::Mark, b";")?;
+        Ok((
+            Declaration::Vector(vector, element, name, initializer, end),
+            height,
+        ))
+    }
+
+    #[tactic(auto, unfolding(sy_reading::specs::Stmts::device_vector))]
+    pub fn device_vector(
+        &self,
+        tokens: &mut Tokens<'_>,
+        vector: Qualified,
+    ) -> Result<Tall<Declaration>, Stop>
+        requires { Nests self.now.below.depth (E.pre self.now.below.expr) (E.post self.now.below.expr) (S.pre self.now.below.stmt) (S.post self.now.below.stmt) }
+        ensures { Reads (stmts.device_vector (read_expr self.now.below.depth) (read_stmt self.now.below.depth) vector tokens.old.rest.now) result tokens.new.rest.now }
+    {
+        tokens.within(b"sycl", b"device")?;
+        tokens.expect(Row::Mark, b">")?;
+        let name = tokens.lexed(Row::Ident)?;
+        let (initializer, height) = self.maybe_initializer(tokens)?;
+        let end = tokens.expect(Row::Mark, b";")?;
+        Ok((
+            Declaration::DeviceVector(vector, name, initializer, end),
+            height,
+        ))
+    }
+
+    #[tactic(auto, unfolding(sy_reading::specs::Stmts::thread_vector))]
+    pub fn thread_vector(
+        &self,
+        tokens: &mut Tokens<'_>,
+        vector: Qualified,
+    ) -> Result<Tall<Declaration>, Stop>
+        requires { Nests self.now.below.depth (E.pre self.now.below.expr) (E.post self.now.below.expr) (S.pre self.now.below.stmt) (S.post self.now.below.stmt) }
+        ensures { Reads (stmts.thread_vector (read_expr self.now.below.depth) (read_stmt self.now.below.depth) vector tokens.old.rest.now) result tokens.new.rest.now }
+    {
+        tokens.within(b"std", b"thread")?;
+        tokens.expect(Row::Mark, b">")?;
+        let name = tokens.lexed(Row::Ident)?;
+        let end = tokens.expect(Row::Mark, b";")?;
+        Ok((Declaration::ThreadVector(vector, name, end), 0))
+    }
+
+    #[tactic(auto, unfolding(sy_reading::specs::Stmts::vector))]
+    pub fn vector(
+        &self,
+        tokens: &mut Tokens<'_>,
+        name: Qualified,
+    ) -> Result<Tall<Declaration>, Stop>
+        requires { Nests self.now.below.depth (E.pre self.now.below.expr) (E.post self.now.below.expr) (S.pre self.now.below.stmt) (S.post self.now.below.stmt) }
+        ensures { Reads (stmts.vector (read_expr self.now.below.depth) (read_stmt self.now.below.depth) name tokens.old.rest.now) result tokens.new.rest.now }
+    {
+        tokens.expect(Row::Mark, b"<")?;
+        if tokens.sees_namespace(b"std") {
+            self.thread_vector(tokens, name)
+        } else if tokens.sees_namespace(b"sycl") {
+            self.device_vector(tokens, name)
+        } else {
+            self.integer_vector(tokens, name)
+        }
+    }
+
+    #[tactic(auto, unfolding(sy_reading::specs::Stmts::thread))]
+    pub fn thread(
+        &self,
+        tokens: &mut Tokens<'_>,
+        name: Qualified,
+    ) -> Result<Tall<Declaration>, Stop>
+        requires { Nests self.now.below.depth (E.pre self.now.below.expr) (E.post self.now.below.expr) (S.pre self.now.below.stmt) (S.post self.now.below.stmt) }
+        ensures { Reads (stmts.thread (read_expr self.now.below.depth) (read_stmt self.now.below.depth) name tokens.old.rest.now) result tokens.new.rest.now }
+    {
+        let variable = tokens.lexed(Row::Ident)?;
+        let (brackets, _open) = opened(tokens)?;
+        let (lambda, height) = self.below.one_lambda(tokens)?;
+        closed(tokens, brackets)?;
+        let end = tokens.expect(Row::Mark, b";")?;
+        Ok((
+            Declaration::Thread(name, variable, brackets, lambda, end),
+            height,
+        ))
+    }
+
+    /// What that name of the library of C++ declares.
+    #[tactic(auto, unfolding(crate::specs::Rests::standard_by))]
+    pub fn standard_by(
+        &self,
+        tokens: &mut Tokens<'_>,
+        name: Qualified,
+        text: &[u8],
+    ) -> Result<Tall<Declaration>, Stop>
+        requires { Nests self.now.below.depth (E.pre self.now.below.expr) (E.post self.now.below.expr) (S.pre self.now.below.stmt) (S.post self.now.below.stmt) }
+        ensures { Reads (rests.standard_by (read_expr self.now.below.depth) (read_stmt self.now.below.depth) name text.now tokens.old.rest.now) result tokens.new.rest.now }
+    {
+        if text == b"vector".as_slice() {
+            self.vector(tokens, name)
+        } else if text == b"thread".as_slice() {
+            self.thread(tokens, name)
+        } else {
+            Err(tokens.refusal())
+        }
+    }
+
+    /// A declaration whose type is of the library of C++.
+    #[tactic(auto, unfolding(sy_reading::specs::Stmts::standard_declaration, crate::specs::Rests::standard_by))]
+    pub fn standard_declaration(&self, tokens: &mut Tokens<'_>) -> Result<Tall<Declaration>, Stop>
+        requires { Nests self.now.below.depth (E.pre self.now.below.expr) (E.post self.now.below.expr) (S.pre self.now.below.stmt) (S.post self.now.below.stmt) }
+        ensures { Reads (stmts.standard_declaration (read_expr self.now.below.depth) (read_stmt self.now.below.depth) tokens.old.rest.now) result tokens.new.rest.now }
+    {
+        let (namespace, name) = tokens.named(b"std")?;
+        self.standard_by(tokens, qualified(namespace, &name), name.text.items())
+    }
+}

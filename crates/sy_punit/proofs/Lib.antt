@@ -1,0 +1,5 @@
+pub mod Below
+pub mod Kept
+pub mod Parsed
+pub mod UnitRead
+pub mod UnitSound

@@ -1,0 +1,248 @@
+//! Names of the library written out, as the grammar has them.
+
+ghost use Rattle.std.specs.Prelude.{◌≡◌, ◌++◌, [], ◌∷◌, IfOk, OnOk, MatchOption, codes, ◌&&◌, ◌||◌, not, if◌then◌else◌};
+ghost use Rattle.std.specs.List.{list_any};
+ghost use Rattle.std.specs.Str.{bytes_eq};
+ghost use Rattle.sy_tree.specs.Qualification as spec;
+ghost use Rattle.sy_punit.specs.Qualifying.{drops_std, kept_from, written, type_names, value_names, function_names};
+
+use std::alloc::{AllocError, Global};
+use sy_lex::{Row, Text, Token, Word};
+
+macro_rules! is_one_of {
+    ($text:expr; $($word:literal),+) => {
+        $($text == $word.as_slice())||+
+    };
+}
+
+fn is_std(word: &Word) -> bool
+    ensures { result ≡ spec.is_std word.now }
+{
+    matches!(word.row, Row::Ident) && word.text.items() == b"std".as_slice()
+}
+
+fn is_scope(word: &Word) -> bool
+    ensures { result ≡ spec.is_scope word.now }
+{
+    matches!(word.row, Row::Mark) && word.text.items() == b"::".as_slice()
+}
+
+fn is_selector(word: &Word) -> bool
+    ensures { result ≡ spec.is_selector word.now }
+{
+    let text = word.text.items();
+    matches!(word.row, Row::Mark) && is_one_of!(text; b".", b"::")
+}
+
+fn is_using(word: &Word) -> bool
+    ensures { result ≡ spec.is_using word.now }
+{
+    matches!(word.row, Row::Reserved) && word.text.items() == b"using".as_slice()
+}
+
+fn is_type_word(word: &Word) -> bool
+    ensures { result ≡ spec.is_type_word word.now }
+{
+    let text = word.text.items();
+    matches!(word.row, Row::Reserved)
+        && is_one_of!(
+            text;
+            b"size_t",
+            b"int8_t",
+            b"int16_t",
+            b"int32_t",
+            b"int64_t",
+            b"uint8_t",
+            b"uint16_t",
+            b"uint32_t",
+            b"uint64_t"
+        )
+}
+
+fn is_type_name(text: &[u8]) -> bool
+    ensures { result ≡ list_any (bytes_eq text.now) type_names }
+{
+    is_one_of!(
+        text;
+        b"buffer",
+        b"accessor",
+        b"host_accessor",
+        b"local_accessor",
+        b"queue",
+        b"device",
+        b"context",
+        b"handler",
+        b"event",
+        b"range",
+        b"id",
+        b"nd_range",
+        b"item",
+        b"nd_item",
+        b"group",
+        b"group_barrier"
+    )
+}
+
+fn is_value_name(text: &[u8]) -> bool
+    ensures { result ≡ list_any (bytes_eq text.now) value_names }
+{
+    is_one_of!(
+        text;
+        b"read_only",
+        b"write_only",
+        b"read_write",
+        b"no_init",
+        b"property",
+        b"info",
+        b"exception",
+        b"errc"
+    )
+}
+
+fn is_function_name(text: &[u8]) -> bool
+    ensures { result ≡ list_any (bytes_eq text.now) function_names }
+{
+    is_one_of!(
+        text;
+        b"reduction",
+        b"plus",
+        b"multiplies",
+        b"minimum",
+        b"maximum",
+        b"bit_and",
+        b"bit_or",
+        b"bit_xor",
+        b"reduce_over_group",
+        b"exclusive_scan_over_group",
+        b"inclusive_scan_over_group",
+        b"group_broadcast"
+    )
+}
+
+#[tactic(auto, using(crate::proofs::Kept::library_name))]
+fn is_library_name(word: &Word) -> bool
+    ensures { result ≡ spec.is_library_name word.now }
+{
+    let text = word.text.items();
+    matches!(word.row, Row::Ident)
+        && (is_type_name(text) || is_value_name(text) || is_function_name(text))
+}
+
+/// Whether a name gets its namespace.
+fn gets_namespace(used: bool, selected: bool, word: &Word) -> bool
+    ensures { result ≡ used && not selected && spec.is_library_name word.now }
+{
+    used && !selected && is_library_name(word)
+}
+
+/// Whether a `using` stands before what follows the word.
+fn is_used(used: bool, word: &Word) -> bool
+    ensures { result ≡ used || spec.is_using word.now }
+{
+    used || is_using(word)
+}
+
+/// A token of its own with that row and text, at the place of another.
+fn beside(alloc: Global, token: &Token, row: Row, text: &[u8]) -> Result<Token, AllocError>
+    ensures { IfOk result (λ t. t ≡ spec.beside token.now (record { row = row; text = text.now })) }
+{
+    let text = Text::copied(alloc, text)?;
+    Ok(Token {
+        word: Word { row, text },
+        from: token.from,
+        to: token.to,
+        spot: token.spot,
+    })
+}
+
+fn copied(alloc: Global, token: &Token) -> Result<Token, AllocError>
+    ensures { IfOk result (λ t. t ≡ token.now) }
+{
+    beside(alloc, token, token.word.row, token.word.text.items())
+}
+
+/// Puts a token behind the others.
+fn keep_plain(alloc: Global, out: &mut Vec<Token>, token: &Token) -> Result<(), AllocError>
+    ensures { OnOk result (out.new.items ≡ out.old.items ++ token.now ∷ []) }
+{
+    let token = copied(alloc, token)?;
+    out.push(token)?;
+    Ok(())
+}
+
+/// The same, with its namespace before it.
+fn keep_named(alloc: Global, out: &mut Vec<Token>, token: &Token) -> Result<(), AllocError>
+    ensures { OnOk result (out.new.items ≡ out.old.items ++ spec.with_namespace token.now) }
+{
+    let namespace = beside(alloc, token, Row::Ident, b"sycl")?;
+    let scope = beside(alloc, token, Row::Mark, b"::")?;
+    out.push(namespace)?;
+    out.push(scope)?;
+    keep_plain(alloc, out, token)
+}
+
+/// Puts a token behind the others, with its namespace before it if it is to have one.
+fn keep(alloc: Global, out: &mut Vec<Token>, token: &Token, named: bool) -> Result<(), AllocError>
+    ensures { OnOk result (out.new.items ≡ out.old.items ++ written named token.now) }
+{
+    if named {
+        keep_named(alloc, out, token)
+    } else {
+        keep_plain(alloc, out, token)
+    }
+}
+
+/// Whether `std::` and a name of an integer type come next.
+fn drops_std(rest: &[Token]) -> bool
+    ensures { result ≡ drops_std rest.now }
+{
+    match rest {
+        [first, second, third, ..] => {
+            is_std(&first.word) && is_scope(&second.word) && is_type_word(&third.word)
+        }
+        _ => false,
+    }
+}
+
+/// The tokens from the next one that is kept on.
+fn kept_from(rest: &[Token]) -> &[Token]
+    ensures { result.now ≡ kept_from rest.now }
+{
+    if drops_std(rest) {
+        match rest {
+            [_, _, kept @ ..] => kept,
+            _ => rest,
+        }
+    } else {
+        rest
+    }
+}
+
+/// The next token that is kept, and what stands behind it.
+fn next_kept(rest: &[Token]) -> Option<(&Token, &[Token])>
+    ensures { MatchOption result (kept_from rest.now ≡ []) (λ p. kept_from rest.now ≡ p.0.now ∷ p.1.now) }
+{
+    match kept_from(rest) {
+        [] => None,
+        [first, others @ ..] => Some((first, others)),
+    }
+}
+
+/// The tokens of a source with each name of the library written out: `std::` is dropped before the name of an integer
+/// type, and after `using namespace sycl;` the names of the library get their namespace.
+pub fn qualify(alloc: Global, toks: &[Token]) -> Result<Vec<Token>, AllocError>
+    ensures { IfOk result (λ v. v.items ≡ spec.qualified toks.now) }
+{
+    let mut out = Vec::new(alloc);
+    let mut rest = toks;
+    let mut used = false;
+    let mut selected = false;
+    while let Some((token, others)) = next_kept(rest) {
+        let named = gets_namespace(used, selected, &token.word);
+        keep(alloc, &mut out, token, named)?;
+        used = is_used(used, &token.word);
+        selected = is_selector(&token.word);
+        rest = others;
+    }
+    Ok(out)
+}

@@ -1,0 +1,28 @@
+-- A main that prints sums submits no command.
+use Rattle.std.proofs.Common.{◌≡◌, ℕ, ◌+◌, Bool, true, false, List, [], ◌∷◌, Option, Some, None, refl, ap, ◌∙◌}
+use Rattle.sy_onecopy.specs.State.{State}
+use Rattle.sy_onecopy.specs.Step.{step}
+use Rattle.sy_sums.specs.declared.sums.Given.{Given}
+use Rattle.sy_sums.specs.declared.sums.Given.TheVariants.{Number}
+use Rattle.sy_sums.specs.declared.sums.Given.TheVariants as given
+use Rattle.sy_sums.specs.declared.sums.Operand.{Operand}
+use Rattle.sy_sums.specs.Sums.{program_of, ask_of_sum, ask_here}
+use Rattle.sy_sums.specs.Commands.{is_submit, submitted, commands}
+
+sum_submits_none : (v : Bool) (line : ℕ) (g : Given) → is_submit (ask_of_sum v line g) ≡ 0
+sum_submits_none v line (given.Overflow at) = refl
+sum_submits_none true line (Number z) = refl
+sum_submits_none false line (Number z) = refl
+
+submits_none : (v : Bool) (o : Option Operand) → is_submit (ask_here v o) ≡ 0
+submits_none v None = refl
+submits_none v (Some o) = sum_submits_none v o.line o.given
+
+none_from : (turns : ℕ) (ops : List Operand) (s : State) (order : List ℕ) → submitted (program_of turns ops) s order ≡ 0
+none_from turns ops s [] = refl
+none_from turns ops s (t ∷ ts) =
+    ap (λ n. n + submitted (program_of turns ops) (step (program_of turns ops) s t) ts) (submits_none _ _)
+    ∙ ap (λ n. 0 + n) (none_from turns ops (step (program_of turns ops) s t) ts)
+
+pub no_commands : (turns : ℕ) (ops : List Operand) (order : List ℕ) → commands (program_of turns ops) order ≡ 0
+no_commands turns ops order = none_from turns ops _ order

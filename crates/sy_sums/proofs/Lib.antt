@@ -1,0 +1,5 @@
+pub mod Alone
+pub mod Commands
+pub mod Hosts
+pub mod Runs
+mod Built
