@@ -2,6 +2,7 @@
 
 use super::*;
 use std::test::Fail;
+use sy_gen::source_of;
 use sy_io::{MemSink, MemSource};
 use sy_note::{Code, Diagnostic, Spot};
 use sy_work::{Cause, HostTrap, NoGate};
@@ -326,6 +327,21 @@ fn every_prefix(rt: HostRuntime) -> Result<(), Fail> {
             code: Code::NotBuilt
         })
     );
+    Ok(())
+}
+
+// generated-run: the sources of the self test have a tree, whose first form that isn't built is in the third line
+#[test]
+fn generated_run(rt: HostRuntime) -> Result<(), Fail> {
+    let third_line = Ended::Refused(Diagnostic {
+        spot: Spot { line: 3, column: 1 },
+        code: Code::NotBuilt,
+    });
+    for groups in [2, 200] {
+        let source = source_of(rt.alloc(), 7, groups)?;
+        let (run, _, _) = serial(&rt, source.as_slice(), &CLEAN)?;
+        assert_eq!(rt; run.ended, third_line);
+    }
     Ok(())
 }
 
