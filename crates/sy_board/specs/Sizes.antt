@@ -1,12 +1,7 @@
 -- What makes the numbers of a board fit their types.
-use Rattle.std.specs.Prelude.{◌≡◌, ℕ, ◌+◌, ◌<◌, ◌≤◌, ◌^◌, List, length, All, Option, Some, None}
-use Rattle.sy_onecopy.specs.declared.Buffer.{Buffer}
+use Rattle.std.specs.Prelude.{ℕ, ◌+◌, ◌<◌, ◌^◌, length}
 use Rattle.sy_onecopy.specs.State.{Board}
-
--- the buffers and their elements are numbered by 32 bits
-pub record AreNumbered (buffers : List Buffer) : Type 0 where
-  pub few : length buffers ≤ 2 ^ 32
-  pub small : All (λ (x : Buffer). length x.values ≤ 2 ^ 22) buffers
+use Rattle.sy_entries.specs.Sizes.{AreNumbered}
 
 -- one more of everything still has a number of 32 bits
 pub record HasRoom (b : Board) : Type 0 where
@@ -16,8 +11,3 @@ pub record HasRoom (b : Board) : Type 0 where
   pub entries : length b.entries < 2 ^ 32
   pub nodes : b.nodes + 1 < 2 ^ 32
   pub places : b.places + 1 < 2 ^ 32
-
--- the count of new elements, where they fit beside those that are live
-abbrev pub Fitting : ℕ → ℕ → Option ℕ → Type 0
-Fitting live count None = 2 ^ 22 < live + count
-Fitting live count (Some n) = (n ≡ count) × (live + count ≤ 2 ^ 22)

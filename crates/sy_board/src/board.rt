@@ -12,19 +12,22 @@ ghost use Rattle.sy_onecopy.specs.Each.{changed_at};
 ghost use Rattle.sy_onecopy.specs.Step.{stop, printed, new_buffer, add_buffer, made_buffer, made_part, add_entry, with_end, mark_ended, end_root, end_buffer, access_entry, opened_host, put_back, closed, close_at, close_found, access_from, made_context, made_queue, node_entry, holds_together, submitted, throw_queue, spawned, add_node, wait_if, apply, is_due, give_all, begun, turn, once_heard};
 ghost use Rattle.sy_sound.specs.Sound.{IsSound};
 ghost use Rattle.sy_board.specs.Known.{AllKnown, IsKnown};
-ghost use Rattle.sy_board.specs.Sizes.{HasRoom, AreNumbered};
+ghost use Rattle.sy_board.specs.Sizes.{HasRoom};
+ghost use Rattle.sy_entries.specs.Sizes.{AreNumbered};
 ghost use Rattle.sy_board.specs.Turns.{give_one, due_of, hear_one};
 
-use crate::cells::{buffers_after, buffers_put, inputs, values_at};
-use crate::needs::{
-    are_below, are_root_needs, count_of, fitting, has_count, has_needs, is_root, is_root_need,
-};
-use crate::order::is_free;
-use crate::waits::{access_at, accesses, ending_by, error_on, has_finished, node_done, queue_done};
 use std::alloc::{AllocError, Global};
 use std::marker::Model;
 use std::mem;
 use sy_access::{Bytes, Log, Mode, Need, Needs, Numbers, Values};
+use sy_entries::cells::{buffers_after, buffers_put, inputs, values_at};
+use sy_entries::needs::{
+    are_below, are_root_needs, count_of, fitting, has_count, has_needs, is_root, is_root_need,
+};
+use sy_entries::order::is_free;
+use sy_entries::waits::{
+    access_at, accesses, ending_by, error_on, has_finished, node_done, queue_done,
+};
 use sy_onecopy::{Buffer, Entry, Origin, Queue, Stage, Waits, Work};
 use sy_range::{Range, count};
 use sy_work::{

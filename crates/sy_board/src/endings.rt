@@ -7,9 +7,9 @@ ghost use Rattle.sy_sound.specs.Sound.{IsSound};
 ghost use Rattle.sy_board.specs.Turns.{may_go, ending_at, main_ended};
 
 use crate::board::OneCopy;
-use crate::copies::copies;
-use crate::waits::{first_error, has_open_node, has_open_node_on, is_ready, value_of_main};
 use std::alloc::{AllocError, Global};
+use sy_entries::copies::copies;
+use sy_entries::waits::{first_error, has_open_node, has_open_node_on, is_ready, value_of_main};
 use sy_work::{Ask, Ending, KernelError};
 
 impl OneCopy {

@@ -3,11 +3,6 @@
 #![tactic(auto)]
 
 mod board;
-mod cells;
-mod copies;
 mod endings;
-mod needs;
-mod order;
-mod waits;
 
 pub use board::OneCopy;

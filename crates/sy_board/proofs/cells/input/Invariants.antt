@@ -1,7 +1,0 @@
-use Rattle.std.proofs.Common.{◌≡◌, take}
-use Rattle.sy_onecopy.specs.Each.{each_from}
-use Rattle.sy_onecopy.specs.Outcome.{at_start}
-use Rattle.sy_board.proofs.cells.input.Given as goal
-
-abbrev pub invariant-loop-i : goal.invariant-loop-i
-invariant-loop-i l = l.given.items ≡ each_from (at_start l.needs l.n.buffer) l.n.from (take l.i l.run)
