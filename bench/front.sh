@@ -1,12 +1,7 @@
 #!/bin/bash
 # Counts the instructions of the built program on sources of sums, by callgrind, and its peak memory.
 # Usage: bench/front.sh [KiB ..]   (64 256 1024 if left out). Needs valgrind, python3 and /usr/bin/time.
-set -eu
-cd "$(dirname "$0")/.."
-program=crates/syclrun/out/syclrun
-[ -x "$program" ] || ./syclrun serial </dev/null >/dev/null 2>&1 || true
-work=$(mktemp -d)
-trap 'rm -rf "$work"' EXIT
+. "$(dirname "$0")/common.sh"
 [ $# -gt 0 ] || set -- 64 256 1024
 for size in "$@"; do
     python3 - "$size" >"$work/source" <<'PY'

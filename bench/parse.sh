@@ -2,12 +2,7 @@
 # Counts the instructions that the built program takes to read sources into their trees, by callgrind, and its peak
 # memory: long chains of operators, deep parentheses, and usual code. Each source is refused as not built once it is read.
 # Usage: bench/parse.sh [KiB ..]   (64 1024 if left out). Needs valgrind, python3 and /usr/bin/time.
-set -eu
-cd "$(dirname "$0")/.."
-program=crates/syclrun/out/syclrun
-[ -x "$program" ] || ./syclrun serial </dev/null >/dev/null 2>&1 || true
-work=$(mktemp -d)
-trap 'rm -rf "$work"' EXIT
+. "$(dirname "$0")/common.sh"
 [ $# -gt 0 ] || set -- 64 1024
 for kind in long deep usual; do
     for size in "$@"; do

@@ -1,12 +1,7 @@
 #!/bin/bash
 # Finds the least stack, in steps of 16 KiB, with which the built program reads trees of height 64 of several kinds.
 # Usage: bench/stack.sh. Needs python3.
-set -eu
-cd "$(dirname "$0")/.."
-program=crates/syclrun/out/syclrun
-[ -x "$program" ] || ./syclrun serial </dev/null >/dev/null 2>&1 || true
-work=$(mktemp -d)
-trap 'rm -rf "$work"' EXIT
+. "$(dirname "$0")/common.sh"
 for kind in parentheses signs calls indexes blocks branches loops lambdas; do
     python3 - "$kind" >"$work/source" <<'PY'
 import sys
