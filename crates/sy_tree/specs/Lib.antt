@@ -7,7 +7,6 @@ pub mod Layers
 pub mod Lists
 pub mod Qualification
 pub mod Statements
-pub mod Things
 pub mod Types
 pub mod Units
 pub mod Words

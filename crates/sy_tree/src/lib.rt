@@ -7,9 +7,7 @@ mod operators;
 mod parts;
 #[cfg(test)]
 mod tests;
-mod things;
 mod tree;
-mod typed;
 
 pub use boxes::{boxed_expr, boxed_stmt};
 pub use operators::{AssignmentOperator, Operator};
@@ -18,13 +16,7 @@ pub use parts::{
     LambdaParameter, LambdaParameterType, Lexeme, LibraryFunction, ObjectType, Parameter,
     Qualified, ReferenceType, ReturnType, Step, TemplateArgument, TypeSpecifier,
 };
-pub use things::{Declared, Dimensions, ErrorName, Member, Thing};
 pub use tree::{
     Argument, Block, Constant, Declaration, Declarator, Expr, FileItem, FullExpression, Function,
     Initializer, Lambda, Printed, Stmt, Unit,
-};
-pub use typed::{
-    Program, Typed, TypedArgument, TypedBlock, TypedCapture, TypedConstant, TypedDeclaration,
-    TypedDeclarator, TypedFull, TypedFunction, TypedInitializer, TypedLambda, TypedNode,
-    TypedPrinted, TypedStmt, Variable,
 };

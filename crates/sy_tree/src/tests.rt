@@ -1,4 +1,4 @@
-// Small trees in boxes, dimensions, and the laws called once.
+// Small trees in boxes, and the laws called once.
 
 use super::*;
 use sqlite_items::Boxed;
@@ -41,22 +41,6 @@ fn statements(rt: HostRuntime) -> Result<(), Fail> {
         return Err(Fail::new("another tree"));
     };
     assert_eq!(rt; (at, end), (spot(1), spot(6)));
-    Ok(())
-}
-
-#[test]
-fn dimensions(rt: HostRuntime) -> Result<(), Fail> {
-    for (number, wanted) in [
-        (0, None),
-        (1, Some(1)),
-        (2, Some(2)),
-        (3, Some(3)),
-        (4, None),
-        (4294967297, None),
-    ] {
-        let found = Dimensions::of(number).map(|d| d.count());
-        assert_eq!(rt; found, wanted);
-    }
     Ok(())
 }
 

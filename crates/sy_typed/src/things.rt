@@ -1,12 +1,12 @@
 //! The types that an expression or a name can have.
 
 ghost use Rattle.std.specs.Prelude.{◌≡◌, ◌≢◌, IfSome, IfNone};
-ghost use Rattle.sy_tree.specs.declared.things.Dimensions.{Dimensions};
-ghost use Rattle.sy_tree.specs.Things.{dimension_count};
+ghost use Rattle.sy_typed.specs.declared.things.Dimensions.{Dimensions};
+ghost use Rattle.sy_typed.specs.Things.{dimension_count};
 
-use crate::parts::{AccessTag, FunctionObject};
 use sy_access::Mode;
 use sy_num::Kind;
+use sy_tree::{AccessTag, FunctionObject};
 
 #[derive(Clone, Copy, PartialEq, Eq, Debug)]
 pub enum Dimensions {

@@ -1,7 +1,7 @@
 -- Dimensions as numbers.
 use Rattle.std.specs.Prelude.{ℕ}
-use Rattle.sy_tree.specs.declared.things.Dimensions.{Dimensions}
-use Rattle.sy_tree.specs.declared.things.Dimensions.TheVariants as dimensions
+use Rattle.sy_typed.specs.declared.things.Dimensions.{Dimensions}
+use Rattle.sy_typed.specs.declared.things.Dimensions.TheVariants as dimensions
 
 abbrev pub dimension_count : Dimensions → ℕ
 dimension_count dimensions.One = 1

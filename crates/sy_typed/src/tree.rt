@@ -3,13 +3,12 @@
 //! Each expression has its type, and each name the number of its declaration. What stood in the source alone, as
 //! the ways to write a cast's type, is gone. Places are kept where a line of an ending is told by them.
 
-use crate::operators::{AssignmentOperator, Operator};
-use crate::parts::{AccessTag, FunctionObject, LibraryFunction, Step};
 use crate::things::{ErrorName, Member, Thing};
 use sqlite_items::{Boxed, Items};
 use sy_lex::Text;
 use sy_note::Spot;
 use sy_num::{Kind, UnOp};
+use sy_tree::{AccessTag, AssignmentOperator, FunctionObject, LibraryFunction, Operator, Step};
 
 /// A declared name: its number, its type, and where it is declared.
 #[derive(Clone, Copy, PartialEq, Eq, Debug)]
