@@ -6,6 +6,7 @@ ghost use Rattle.sy_access.specs.declared.devices.PartStop.TheVariants.{Memory};
 ghost use Rattle.sy_access.specs.Devices.{parts, has_unit, is_part};
 
 use std::alloc::{AllocError, Global};
+use thiserror::Error;
 
 /// A device: `units` compute units, numbered from `first`.
 #[derive(Clone, Copy, PartialEq, Eq, Debug)]
@@ -24,10 +25,12 @@ impl Device {
 }
 
 /// Why a device isn't partitioned.
-#[derive(Clone, Copy, PartialEq, Eq, Debug)]
+#[derive(Clone, Copy, PartialEq, Eq, Debug, Error)]
 pub enum PartStop {
     /// The count of units per part is 0, or the device has fewer.
+    #[error("no part of that many units")]
     Invalid,
+    #[error("out of memory")]
     Memory,
 }
 

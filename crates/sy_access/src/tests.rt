@@ -114,6 +114,17 @@ fn parts_of_the_whole(rt: HostRuntime) -> Result<(), Fail> {
 }
 
 #[test]
+fn texts_of_stops(rt: HostRuntime) -> Result<(), Fail> {
+    for (stop, text) in [
+        (PartStop::Invalid, "no part of that many units"),
+        (PartStop::Memory, "out of memory"),
+    ] {
+        assert_eq!(rt; format!(in rt.alloc(); "{stop}")?.as_str(), text);
+    }
+    Ok(())
+}
+
+#[test]
 fn parts_of_a_part(rt: HostRuntime) -> Result<(), Fail> {
     let last = Device { first: 4, units: 4 };
     let parts = partition(rt.alloc(), &last, 3).map_err(|_| "no memory")?;

@@ -5,11 +5,11 @@ use Rattle.std.specs.Prelude.{◌≡◌, ℕ, ◌+◌, ◌-◌, ◌^◌, ◌≤�
 abbrev pub one_more : ℕ → ℕ
 one_more count = min (count + 1) (2 ^ 64 - 1)
 
--- the count rose: it is greater than before, or stands at the counter's last value
+-- the count rose by one fault and no more
 abbrev pub Rose : ℕ → ℕ → Type 0
-Rose before now = one_more before ≤ now
+Rose before now = now ≡ one_more before
 
--- the count never falls, and rises exactly where the call fails
+-- the count never falls; it rises, by one, exactly where the call fails
 pub record HasCause {T E : Type 0} (before now : ℕ) (result : Result T E) : Type 0 where
   pub later : before ≤ now
   pub kept : OnOk result (now ≡ before)

@@ -11,7 +11,7 @@ ConsumesUntil TooLong limit old new = ConsumesExactly old new (limit + 1)
 ConsumesUntil Fault limit old new = ConsumesAtMost old new limit
 ConsumesUntil Memory limit old new = ConsumesAtMost old new limit
 
--- the count of faults rose where reading stopped at a fault, and stayed where it stopped at something else
+-- one fault was counted where reading stopped at a fault, and none where it stopped at something else
 abbrev pub StopHasCause : ReadStop → ℕ → ℕ → Type 0
 StopHasCause TooLong before now = now ≡ before
 StopHasCause Fault before now = Rose before now

@@ -19,9 +19,11 @@ mod standard;
 pub use memory::{MemSink, MemSource};
 pub use standard::{StdSink, StdSource};
 use std::alloc::{AllocError, Global};
+use thiserror::Error;
 
 /// A call of a source or a sink failed, and counted a fault.
-#[derive(Clone, Copy, Debug, PartialEq, Eq)]
+#[derive(Clone, Copy, Debug, PartialEq, Eq, Error)]
+#[error("the call met a fault")]
 pub struct Failed;
 
 /// Where bytes come from.
@@ -57,12 +59,14 @@ pub trait Sink {
         ensures cause { HasCause (faults self.old) (faults self.new) result };
 }
 
-/// What stopped the reading of a whole source: more bytes than the limit, a fault of the source,
-/// or want of memory.
-#[derive(Clone, Copy, Debug, PartialEq, Eq)]
+/// What stopped the reading of a whole source.
+#[derive(Clone, Copy, Debug, PartialEq, Eq, Error)]
 pub enum ReadStop {
+    #[error("more bytes than the limit")]
     TooLong,
+    #[error("a read met a fault")]
     Fault,
+    #[error("out of memory")]
     Memory,
 }
 
@@ -110,7 +114,8 @@ fn read_front<S: Source>(source: &mut S, buffer: &mut [u8], most: usize) -> Resu
     source.read(&mut buffer[..most])
 }
 
-/// Reads all bytes left, to the end of the source, or stops after `limit + 1` bytes.
+/// Reads all bytes left, to the end of the source, or stops after `limit + 1` bytes. A fault is not
+/// tried again.
 pub fn read_all<S: Source>(alloc: Global, source: &mut S, limit: usize) -> Result<Vec<u8>, ReadStop>
     // The bytes, where the source tells them.
     ensures whole { IfOk result (λ all. IfSome (S.left source.old) (λ bytes. all.items ≡ bytes)) }
@@ -146,7 +151,7 @@ pub fn read_all<S: Source>(alloc: Global, source: &mut S, limit: usize) -> Resul
 }
 
 /// Writes all of `bytes`. Each call of the sink is offered all that is left, and none is made once
-/// nothing is.
+/// nothing is. A fault is not tried again.
 pub fn write_all<K: Sink>(sink: &mut K, bytes: &[u8]) -> Result<(), Failed>
     ensures all { OnOk result (Appends (K.taken sink.old) (K.taken sink.new) bytes.now) }
     ensures front { OnErr result (AppendsFront (K.taken sink.old) (K.taken sink.new) bytes.now) }

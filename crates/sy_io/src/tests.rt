@@ -1,4 +1,4 @@
-ghost use Rattle.std.specs.Prelude.{◌≡◌, ℕ, Contains};
+ghost use Rattle.std.specs.Prelude.{◌≡◌, ℕ, Contains, IfOk};
 ghost use Rattle.sy_io.specs.Calls.{NextIsListed};
 
 use super::*;
@@ -129,33 +129,45 @@ fn never_fails_unasked(rt: HostRuntime) -> Result<(), Fail> {
     Ok(())
 }
 
-// A reader and a writer that move a byte in each call, and then fail or end.
+// A reader and a writer of three bytes that move a byte in each call, and then fail or end.
 #[derive(Drop)]
-struct Byte {
-    calls: u8,
+struct ByteWise {
+    bytes: [u8; 3],
+    at: usize,
     fails: bool,
 }
 
-impl Byte {
-    fn next(&mut self) -> io::Result<usize> {
-        self.calls = self.calls.saturating_sub(1);
-        match self.calls {
-            0 if self.fails => Err(io::Error::from(io::ErrorKind::BrokenPipe)),
-            0 => Ok(0),
-            _ => Ok(1),
+impl ByteWise {
+    fn over(&self) -> io::Result<usize>
+        ensures { IfOk result (λ n. n ≡ 0) }
+    {
+        if self.fails {
+            Err(io::Error::from(io::ErrorKind::BrokenPipe))
+        } else {
+            Ok(0)
         }
     }
 }
 
-impl io::Read for Byte {
+impl io::Read for ByteWise {
     fn read(&mut self, buf: &mut [u8]) -> io::Result<usize> {
-        Ok(self.next()?.min(buf.len()))
+        if self.at >= 3 || buf.is_empty() {
+            return self.over();
+        }
+        buf[0] = self.bytes[self.at];
+        self.at += 1;
+        Ok(1)
     }
 }
 
-impl io::Write for Byte {
+impl io::Write for ByteWise {
     fn write(&mut self, buf: &[u8]) -> io::Result<usize> {
-        Ok(self.next()?.min(buf.len()))
+        if self.at >= 3 || buf.is_empty() {
+            return self.over();
+        }
+        self.bytes[self.at] = buf[0];
+        self.at += 1;
+        Ok(1)
     }
 
     fn flush(&mut self) -> io::Result<()> {
@@ -163,18 +175,20 @@ impl io::Write for Byte {
     }
 }
 
+fn three(bytes: [u8; 3], fails: bool) -> ByteWise {
+    ByteWise {
+        bytes,
+        at: 0,
+        fails,
+    }
+}
+
 #[test]
 fn reads_from_std(rt: HostRuntime) -> Result<(), Fail> {
-    let mut ended = StdSource::new(Byte {
-        calls: 3,
-        fails: false,
-    });
-    let all = read_all(rt.alloc(), &mut ended, 2).ok().ok_or("stopped")?;
-    assert_eq!(rt; all.as_slice(), [0, 0].as_slice());
-    let mut failed = StdSource::new(Byte {
-        calls: 3,
-        fails: true,
-    });
+    let mut ended = StdSource::new(three(*b"abc", false));
+    let all = read_all(rt.alloc(), &mut ended, 3).ok().ok_or("stopped")?;
+    assert_eq!(rt; all.as_slice(), b"abc".as_slice());
+    let mut failed = StdSource::new(three(*b"abc", true));
     assert_eq!(rt;
         read_all(rt.alloc(), &mut failed, 9).err(),
         Some(ReadStop::Fault)
@@ -188,11 +202,33 @@ fn reads_from_std(rt: HostRuntime) -> Result<(), Fail> {
 #[test]
 fn writes_to_std(rt: HostRuntime) -> Result<(), Fail> {
     for fails in [false, true] {
-        assert!(rt; write_all(&mut StdSink::new(Byte { calls: 4, fails }), b"abc").is_ok());
+        let mut taken = three([0; 3], fails);
+        assert!(rt; write_all(&mut StdSink::new(&mut taken), b"abc").is_ok());
+        assert_eq!(rt; taken.bytes.as_slice(), b"abc".as_slice());
+        let mut taken = three([0; 3], fails);
         assert_eq!(rt;
-            write_all(&mut StdSink::new(Byte { calls: 3, fails }), b"abc"),
+            write_all(&mut StdSink::new(&mut taken), b"abcd"),
             Err(Failed)
         );
+        assert_eq!(rt; taken.bytes.as_slice(), b"abc".as_slice());
+    }
+    Ok(())
+}
+
+#[test]
+fn texts(rt: HostRuntime) -> Result<(), Fail> {
+    let alloc = rt.alloc();
+    assert_eq!(rt;
+        format!(in alloc; "{Failed}")?.as_str(),
+        "the call met a fault"
+    );
+    let cases: [(ReadStop, &str); 3] = [
+        (ReadStop::TooLong, "more bytes than the limit"),
+        (ReadStop::Fault, "a read met a fault"),
+        (ReadStop::Memory, "out of memory"),
+    ];
+    for (stop, text) in cases {
+        assert_eq!(rt; format!(in alloc; "{stop}")?.as_str(), text);
     }
     Ok(())
 }

@@ -5,6 +5,7 @@ ghost use Rattle.sy_range.specs.NdRanges.{is_nd};
 
 use crate::linear_ids::count;
 use crate::ranges::Range;
+use thiserror::Error;
 
 /// A global range, and the local range of its work-groups (SYCL 2020, `nd_range` class).
 #[derive(Clone, Copy, PartialEq, Eq, Debug)]
@@ -14,7 +15,8 @@ pub struct NdRange {
 }
 
 /// The two ranges are no ND-range.
-#[derive(Clone, Copy, PartialEq, Eq, Debug)]
+#[derive(Clone, Copy, PartialEq, Eq, Debug, Error)]
+#[error("the two ranges are no nd-range")]
 pub struct BadNd;
 
 /// Where a work item stands.

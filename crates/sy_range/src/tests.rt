@@ -1,4 +1,5 @@
 use super::*;
+use std::test::Fail;
 
 #[test]
 fn ranges_hold_their_numbers(rt: HostRuntime) {
@@ -128,4 +129,13 @@ fn nd_ranges(rt: HostRuntime) {
             );
         }
     }
+}
+
+#[test]
+fn text_of_bad_ranges(rt: HostRuntime) -> Result<(), Fail> {
+    assert_eq!(rt;
+        format!(in rt.alloc(); "{BadNd}")?.as_str(),
+        "the two ranges are no nd-range"
+    );
+    Ok(())
 }
