@@ -1,7 +1,8 @@
-mod Lists
-pub mod Fit
-mod Counts
-pub mod Moves
-pub mod Applied
-pub mod Turns
-pub mod Runs
+mod ListLemmas
+pub mod WaitLemmas
+mod BufferLemmas
+pub mod SettleLemmas
+pub mod AskLemmas
+pub mod TurnLemmas
+pub mod RunLemmas
+pub mod AloneLemmas

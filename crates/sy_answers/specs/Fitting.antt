@@ -1,10 +1,13 @@
 -- That what a thread is answered fits what it asked.
 use Rattle.std.specs.Prelude.{◌≡◌, ◌≢◌, ◌<◌, ◌≤◌, ◌⊎◌, ℕ, suc, ℤ, true, false, nat_lt, if◌then◌else◌, List, [], ◌∷◌, length, Option, Some, None, slice_get}
 use Rattle.sy_work.specs.declared.asks.Ask.{Ask}
-use Rattle.sy_work.specs.declared.asks.Ask.TheVariants.{Spawn}
+use Rattle.sy_work.specs.declared.asks.Ask.TheVariants.{EndBuffer, Spawn}
 use Rattle.sy_work.specs.declared.asks.Answer.{Answer}
+use Rattle.sy_work.specs.declared.asks.Answer.TheVariants.{Done, Contents}
 use Rattle.sy_work.specs.Programs.{Program}
 use Rattle.sy_work.specs.Answers.{Fits}
+use Rattle.sy_onecopy.specs.declared.Buffer.{Buffer}
+use Rattle.sy_onecopy.specs.declared.Origin.TheVariants.{Vector}
 use Rattle.sy_onecopy.specs.declared.Waits.{Waits}
 use Rattle.sy_onecopy.specs.declared.Waits.TheVariants.{Due}
 use Rattle.sy_onecopy.specs.State.{Board, State, next_ask}
@@ -19,6 +22,17 @@ board_after p s t = turn p.outcome s.board t (next_ask p s t)
 abbrev pub count_after : Ask → ℕ → ℕ
 count_after (Spawn body captures) n = if nat_lt n 64 then suc n else n
 count_after ask n = n
+
+-- the answer fits the end of this buffer: over a vector as many numbers as the buffer has, and else Done
+abbrev pub FitsEnd : Option Buffer → Answer → Type 0
+FitsEnd (Some x) (Contents values) = (x.origin ≡ Vector) × (length values ≡ length x.values)
+FitsEnd (Some x) Done = x.origin ≢ Vector
+FitsEnd x a = ⊥
+
+-- the answer fits the ask, where these are the buffers
+abbrev pub FitsOver : List Buffer → Ask → Answer → Type 0
+FitsOver buffers (EndBuffer r) a = FitsEnd (slice_get buffers r) a
+FitsOver buffers q a = Fits q a
 
 -- the ask starts a thread
 abbrev pub IsSpawn : Ask → Type 0
@@ -37,6 +51,8 @@ due_at (Some w) = due_of w
 pub record StepFits (p : Program) (s : State) (t : ℕ) : Type 0 where
   -- an answer fits what its thread asked
   pub fits : (u : ℕ) (a : Answer) → slice_get (board_after p s t).waits u ≡ Some (Due a) → Fits (next_ask p s u) a
+  -- the end of a buffer over a vector is answered with as many numbers as the buffer has
+  pub ends : (u r : ℕ) (a : Answer) → slice_get (board_after p s t).waits u ≡ Some (Due a) → next_ask p s u ≡ EndBuffer r → FitsEnd (slice_get (board_after p s t).buffers r) a
   -- beside t only threads that wait are answered
   pub asked : (u : ℕ) (a : Answer) → slice_get (board_after p s t).waits u ≡ Some (Due a) → u ≢ t → ready_at (slice_get s.board.waits u) ≡ false
   -- who was ready stays so

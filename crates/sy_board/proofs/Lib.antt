@@ -1,5 +1,4 @@
-pub mod Each
-pub mod Giving
-pub mod Room
-pub mod Knowing
-pub mod Effects
+pub mod ListLemmas
+pub mod AnswerLemmas
+pub mod SizeLemmas
+pub mod EffectLemmas

@@ -1,5 +1,5 @@
 -- What makes the numbers of a board fit their types.
-use Rattle.std.specs.Prelude.{ℕ, ◌+◌, ◌<◌, ◌^◌, length}
+use Rattle.std.specs.Prelude.{◌+◌, ◌<◌, ◌^◌, length}
 use Rattle.sy_onecopy.specs.State.{Board}
 use Rattle.sy_entries.specs.Sizes.{AreNumbered}
 

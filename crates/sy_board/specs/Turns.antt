@@ -1,15 +1,13 @@
 -- How a board gives answers one thread after another, and how it ends.
-use Rattle.std.specs.Prelude.{ℕ, zero, suc, ℤ, Bool, false, ◌&&◌, if◌then◌else◌, Option, Some, None, slice_get}
+use Rattle.std.specs.Prelude.{ℕ, zero, suc, Bool, false, ◌&&◌, Option, Some, None, slice_get}
 use Rattle.sy_work.specs.declared.asks.Ask.{Ask}
 use Rattle.sy_work.specs.declared.asks.Answer.{Answer}
-use Rattle.sy_work.specs.declared.endings.Ending.{Ending}
-use Rattle.sy_work.specs.declared.endings.Ending.TheVariants.{Stuck}
 use Rattle.sy_onecopy.specs.declared.Waits.{Waits}
 use Rattle.sy_onecopy.specs.declared.Waits.TheVariants.{Due}
 use Rattle.sy_onecopy.specs.Each.{changed_at}
 use Rattle.sy_onecopy.specs.State.{Board}
 use Rattle.sy_onecopy.specs.Step.{given, once_heard}
-use Rattle.sy_onecopy.specs.Sequence.{goes_on, ready_at, is_clear, value_of_main, has_open_node, first_error, ending_after_main, ending_of_threads}
+use Rattle.sy_onecopy.specs.Sequence.{goes_on, ready_at, is_clear}
 
 -- the wait of thread k is answered, if it is over
 abbrev pub give_one : ℕ → Board → Board
@@ -33,21 +31,3 @@ hear_one k b = record b { waits = changed_at once_heard k b.waits }
 abbrev pub may_go : Board → ℕ → Option Ask → Bool
 may_go b t None = false
 may_go b t (Some q) = goes_on b && (ready_at (slice_get b.waits t) && is_clear b q)
-
--- main has made its last step with this value
-abbrev pub main_ended : Board → ℤ → Ending
-main_ended b v = if has_open_node b.entries then Stuck else ending_after_main v (first_error b.entries)
-
--- the ending where main has made its last step with a value, or goes on and this is the least thread that may step
-abbrev pub ended_by : Board → Option ℕ → Option ℤ → Option Ending
-ended_by b first (Some v) = Some (main_ended b v)
-ended_by b first None = ending_of_threads b.steps first
-
--- the ending where a step has ended the run, or none has
-abbrev pub ended_after : Board → Option ℕ → Option Ending → Option Ending
-ended_after b first (Some e) = Some e
-ended_after b first None = ended_by b first (value_of_main b.waits)
-
--- the ending of a board on which this is the least thread that may step
-abbrev pub ending_at : Board → Option ℕ → Option Ending
-ending_at b first = ended_after b first b.ended

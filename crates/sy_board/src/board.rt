@@ -1,6 +1,7 @@
 // The state of the machine, and what one ask of a thread does to it.
 
-ghost use Rattle.std.specs.Prelude.{◌≡◌, ◌≢◌, ◌+◌, ◌<◌, ◌≤◌, ◌^◌, length, nat_le, nat_lt, IfOk, OnOk, ℕ, ℤ, List, Some, slice_get};
+ghost use Rattle.std.specs.Prelude.{◌≡◌, ◌≢◌, ◌+◌, ◌<◌, ◌≤◌, ◌^◌, length, nat_le, nat_lt, IfOk, OnOk, ℕ, ℤ, List, [], ◌∷◌, None, Some, slice_get};
+ghost use Rattle.sy_onecopy.specs.declared.Stage.TheVariants.{Pending};
 ghost use Rattle.sy_range.specs.LinearIds.{product};
 ghost use Rattle.sy_work.specs.declared.asks.Submission.{Submission};
 ghost use Rattle.sy_work.specs.Inputs.{InputsFit};
@@ -11,7 +12,7 @@ ghost use Rattle.sy_onecopy.specs.Settle.{await, reply, with_stage, to_stage, to
 ghost use Rattle.sy_onecopy.specs.Each.{changed_at};
 ghost use Rattle.sy_onecopy.specs.Step.{stop, printed, new_buffer, add_buffer, made_buffer, made_part, add_entry, with_end, mark_ended, end_root, end_buffer, access_entry, opened_host, put_back, closed, close_at, close_found, access_from, made_context, made_queue, node_entry, holds_together, submitted, throw_queue, spawned, add_node, wait_if, apply, is_due, give_all, begun, turn, once_heard};
 ghost use Rattle.sy_sound.specs.Sound.{IsSound};
-ghost use Rattle.sy_board.specs.Known.{AllKnown, IsKnown};
+ghost use Rattle.sy_sound.specs.Known.{AllKnown, IsKnown};
 ghost use Rattle.sy_board.specs.Sizes.{HasRoom};
 ghost use Rattle.sy_entries.specs.Sizes.{AreNumbered};
 ghost use Rattle.sy_board.specs.Turns.{give_one, due_of, hear_one};
@@ -302,14 +303,7 @@ impl OneCopy {
                     from: 0,
                     to: elements,
                 };
-                self.add_entry(Entry {
-                    work: Work::End(t, r),
-                    needs: Needs::of(vec![in alloc; need]?),
-                    after: Numbers::of(Vec::new(alloc)),
-                    in_order: None,
-                    place: 0,
-                    stage: Stage::Pending,
-                })?;
+                self.add_entry(host_entry(alloc, Work::End(t, r), need)?)?;
                 self.await_on(t, Waits::OnEntry);
             }
             Origin::Range => self.reply(t, Answer::Done),
@@ -344,14 +338,7 @@ impl OneCopy {
     {
         if is_root_need(self.buffers.as_slice(), n) {
             let number = accesses(self.entries.as_slice(), t) as u32;
-            self.add_entry(Entry {
-                work: Work::Access(t, number),
-                needs: Needs::of(vec![in alloc; *n]?),
-                after: Numbers::of(Vec::new(alloc)),
-                in_order: None,
-                place: 0,
-                stage: Stage::Pending,
-            })?;
+            self.add_entry(host_entry(alloc, Work::Access(t, number), *n)?)?;
             self.await_on(t, Waits::OnEntry);
         }
         Ok(())
@@ -735,6 +722,20 @@ fn new_buffer(alloc: Global, m: &NewBuffer, elements: usize) -> Result<Buffer, A
             ended: false,
         }),
     }
+}
+
+/// An entry of host code, which has one need.
+fn host_entry(alloc: Global, work: Work, need: Need) -> Result<Entry, AllocError>
+    ensures { IfOk result (λ (e : Entry). e ≡ record { work = work; needs = need ∷ []; after = []; in_order = None; place = 0; stage = Pending }) }
+{
+    Ok(Entry {
+        work,
+        needs: Needs::of(vec![in alloc; need]?),
+        after: Numbers::of(Vec::new(alloc)),
+        in_order: None,
+        place: 0,
+        stage: Stage::Pending,
+    })
 }
 
 fn copy_of(command: &Command) -> Result<Command, AllocError>

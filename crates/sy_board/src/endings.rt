@@ -2,9 +2,9 @@
 
 ghost use Rattle.std.specs.Prelude.{◌≡◌, ◌<◌, ◌^◌, IfOk};
 ghost use Rattle.sy_onecopy.specs.Copies.{copies};
-ghost use Rattle.sy_onecopy.specs.Sequence.{goes_on, is_clear, ending_after_main, ending_of_threads};
+ghost use Rattle.sy_onecopy.specs.Sequence.{goes_on, is_clear, ending_after_main, ending_of_threads, ending_of_main, ending_at};
 ghost use Rattle.sy_sound.specs.Sound.{IsSound};
-ghost use Rattle.sy_board.specs.Turns.{may_go, ending_at, main_ended};
+ghost use Rattle.sy_board.specs.Turns.{may_go};
 
 use crate::board::OneCopy;
 use std::alloc::{AllocError, Global};
@@ -44,7 +44,7 @@ impl OneCopy {
 
     /// The ending after main's last step, with this value.
     fn main_ending(&self, v: i32) -> Ending
-        ensures { result ≡ main_ended self.now v }
+        ensures { result ≡ ending_of_main self.now.entries v }
     {
         if has_open_node(self.entries.as_slice()) {
             return Ending::Stuck;

@@ -1,8 +1,8 @@
-pub mod Over
-pub mod Renewal
-pub mod Seats
-pub mod Changes
-pub mod Entries
-pub mod Agreement
-pub mod Roots
-pub mod Refused
+pub mod ListLemmas
+pub mod RenewalLemmas
+pub mod SlotLemmas
+pub mod BufferLemmas
+pub mod CallLemmas
+pub mod AgreementLemmas
+pub mod RootLemmas
+pub mod ConditionLemmas

@@ -3,7 +3,8 @@ use Rattle.std.specs.Prelude.{◌≡◌, ℕ, ◌+◌, ℤ, Bool, true, false, �
 use Rattle.sy_access.specs.declared.access.Need.{Need}
 use Rattle.sy_access.specs.declared.cells.Cell.{Cell}
 use Rattle.sy_copies.specs.declared.buffer.Buffer.{Buffer}
-use Rattle.sy_copies.specs.Commands.{cells_after, start_of, renews, replaces}
+use Rattle.sy_copies.specs.Commands.{cells_after, start_of}
+use Rattle.sy_needs.specs.Versions.{renews, replaces}
 use Rattle.sy_copies.specs.Places.{zeros}
 use Rattle.sy_copies.specs.Current.{copy_at, len_at, has_room}
 

@@ -5,7 +5,7 @@ use Rattle.sy_access.specs.declared.access.Need.{Need}
 use Rattle.sy_access.specs.declared.cells.Cell.{Cell}
 use Rattle.sy_copies.specs.declared.slots.Slot.{Slot}
 use Rattle.sy_copies.specs.declared.buffer.Buffer.{Buffer}
-use Rattle.sy_copies.specs.Commands.{renews}
+use Rattle.sy_needs.specs.Versions.{renews}
 use Rattle.sy_copies.specs.Slots.{has_slot}
 use Rattle.sy_copies.specs.Places.{zeros, copy_in, published}
 

@@ -1,4 +1,3 @@
-pub mod Each
 pub mod Commands
 pub mod Parts
 pub mod Slots

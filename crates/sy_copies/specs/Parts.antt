@@ -4,7 +4,7 @@ use Rattle.sy_access.specs.declared.access.Need.{Need}
 use Rattle.sy_access.specs.declared.cells.Cell.{Cell}
 use Rattle.sy_access.specs.declared.cells.Cell.TheVariants as cell
 use Rattle.sy_access.specs.Logs.{same_cell, logged}
-use Rattle.sy_copies.specs.Commands.{starts_zero, is_written}
+use Rattle.sy_needs.specs.Elements.{starts_zero, is_written}
 
 -- zero from one place up to another
 unfoldable pub zero_in : ℕ → ℕ → ℕ → ℤ → ℤ

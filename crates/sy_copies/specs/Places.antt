@@ -4,7 +4,7 @@ use Rattle.sy_access.specs.declared.access.Need.{Need}
 use Rattle.sy_access.specs.declared.cells.Cell.{Cell}
 use Rattle.sy_copies.specs.declared.slots.Slot.{Slot}
 use Rattle.sy_copies.specs.declared.buffer.Buffer.{Buffer}
-use Rattle.sy_copies.specs.Commands.{replaces}
+use Rattle.sy_needs.specs.Versions.{replaces}
 use Rattle.sy_copies.specs.Slots.{slot_at, has_slot, with_slot, slot_after}
 
 -- so many zeros

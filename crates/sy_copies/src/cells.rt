@@ -2,7 +2,7 @@
 
 ghost use Rattle.std.specs.Prelude.{◌≡◌, ℤ, length};
 ghost use Rattle.sy_access.specs.declared.cells.Cell.{Cell};
-ghost use Rattle.sy_copies.specs.Each.{each_from};
+ghost use Rattle.sy_needs.specs.Each.{each_from};
 ghost use Rattle.sy_copies.specs.Commands.{cells_after, start_of};
 ghost use Rattle.sy_copies.specs.Parts.{zero_in, clear_in, clear_at, put_at, put_all_at};
 

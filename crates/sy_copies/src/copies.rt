@@ -1,7 +1,7 @@
 // The copies of all buffers of a run.
 
 ghost use Rattle.std.specs.Prelude.{◌≡◌, ◌-◌, ◌^◌, ◌<◌, ℕ, [], List, ℤ, length, Some, None, IsTrue, IfSome, IfOk, IfErr, OnOk, OnErr, IsOk, IsSome, MatchOption};
-ghost use Rattle.sy_copies.specs.Each.{each_from};
+ghost use Rattle.sy_needs.specs.Each.{each_from};
 ghost use Rattle.sy_copies.specs.Current.{copy_at, len_at, has_room, Agree, publish_at, publish_one};
 ghost use Rattle.sy_copies.specs.Calls.{Makes, Installs, Reserves, MayPublish, Publishes, Drops};
 

@@ -1,12 +1,14 @@
 // What the needs of one command say of a root and of its elements.
 
 ghost use Rattle.std.specs.Prelude.{◌≡◌};
-ghost use Rattle.sy_copies.specs.Commands.{is_written, keeps, renews, covers, forgoes, replaces};
+ghost use Rattle.sy_copies.specs.Commands.{keeps};
+ghost use Rattle.sy_needs.specs.Elements.{is_written};
+ghost use Rattle.sy_needs.specs.Versions.{renews, covers, forgoes, replaces};
 
 use sy_access::Need;
 
 /// Whether a need that writes has the element.
-#[tactic(auto, unfolding(crate::specs::Commands::is_written))]
+#[tactic(auto, unfolding(sy_needs::specs::Elements::is_written))]
 pub fn is_written(needs: &[Need], root: u32, i: usize) -> bool
     ensures { result ≡ is_written needs.now root i }
 {
@@ -14,7 +16,7 @@ pub fn is_written(needs: &[Need], root: u32, i: usize) -> bool
 }
 
 /// Whether a need on the root writes.
-#[tactic(auto, unfolding(crate::specs::Commands::renews))]
+#[tactic(auto, unfolding(sy_needs::specs::Versions::renews))]
 pub fn renews(needs: &[Need], root: u32) -> bool
     ensures { result ≡ renews needs.now root }
 {
@@ -22,7 +24,7 @@ pub fn renews(needs: &[Need], root: u32) -> bool
 }
 
 /// Whether a need has all `len` elements of the root.
-#[tactic(auto, unfolding(crate::specs::Commands::covers))]
+#[tactic(auto, unfolding(sy_needs::specs::Versions::covers))]
 fn covers(needs: &[Need], root: u32, len: u64) -> bool
     ensures { result ≡ covers needs.now root len }
 {
@@ -32,7 +34,7 @@ fn covers(needs: &[Need], root: u32, len: u64) -> bool
 }
 
 /// Whether all needs on the root have no_init.
-#[tactic(auto, unfolding(crate::specs::Commands::forgoes))]
+#[tactic(auto, unfolding(sy_needs::specs::Versions::forgoes))]
 fn forgoes(needs: &[Need], root: u32) -> bool
     ensures { result ≡ forgoes needs.now root }
 {
@@ -40,7 +42,7 @@ fn forgoes(needs: &[Need], root: u32) -> bool
 }
 
 /// Whether the command has no use for the numbers of a root of `len` elements.
-#[tactic(auto, unfolding(crate::specs::Commands::replaces))]
+#[tactic(auto, unfolding(sy_needs::specs::Versions::replaces))]
 pub fn replaces(needs: &[Need], root: u32, len: u64) -> bool
     ensures { result ≡ replaces needs.now root len }
 {

@@ -1,2 +1,2 @@
-mod Each
-mod Room
+mod ListLemmas
+mod SizeLemmas

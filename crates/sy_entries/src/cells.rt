@@ -1,8 +1,9 @@
 // What a command is given, what it leaves, and what a host access gives back.
 
 ghost use Rattle.std.specs.Prelude.{◌≡◌, ◌+◌, ◌<◌, ◌≤◌, ◌^◌, length, IfOk, ℤ, List, map};
-ghost use Rattle.sy_onecopy.specs.Outcome.{starts_zero, is_written, at_start, values_at, run_of, input, inputs, cell_after, buffer_after, buffers_after};
-ghost use Rattle.sy_onecopy.specs.Each.{each_from};
+ghost use Rattle.sy_onecopy.specs.Outcome.{values_at, run_of, input, inputs, buffer_after, buffers_after};
+ghost use Rattle.sy_needs.specs.Elements.{starts_zero, is_written, at_start, cell_after};
+ghost use Rattle.sy_needs.specs.Each.{each_from};
 ghost use Rattle.sy_onecopy.specs.Step.{cell_put, buffer_put};
 ghost use Rattle.sy_entries.specs.Sizes.{AreNumbered};
 
@@ -12,7 +13,7 @@ use sy_onecopy::Buffer;
 use sy_work::Inputs;
 
 /// Whether each need that has the element has no_init.
-#[tactic(auto, unfolding(sy_onecopy::specs::Outcome::starts_zero))]
+#[tactic(auto, unfolding(sy_needs::specs::Elements::starts_zero))]
 fn starts_zero(needs: &[Need], r: u32, i: usize) -> bool
     ensures { result ≡ starts_zero needs.now r i }
 {
@@ -20,7 +21,7 @@ fn starts_zero(needs: &[Need], r: u32, i: usize) -> bool
 }
 
 /// Whether a need that writes has the element.
-#[tactic(auto, unfolding(sy_onecopy::specs::Outcome::is_written))]
+#[tactic(auto, unfolding(sy_needs::specs::Elements::is_written))]
 fn is_written(needs: &[Need], r: u32, i: usize) -> bool
     ensures { result ≡ is_written needs.now r i }
 {
@@ -28,7 +29,7 @@ fn is_written(needs: &[Need], r: u32, i: usize) -> bool
 }
 
 /// The element as the command starts.
-#[tactic(auto, unfolding(sy_onecopy::specs::Outcome::at_start))]
+#[tactic(auto, unfolding(sy_needs::specs::Elements::at_start))]
 fn at_start(needs: &[Need], r: u32, i: usize, v: i128) -> i128
     ensures { result ≡ at_start needs.now r i v }
 {
@@ -97,7 +98,7 @@ pub fn inputs(alloc: Global, buffers: &[Buffer], needs: &[Need]) -> Result<Input
 }
 
 /// The element after a command that wrote this log.
-#[tactic(auto, unfolding(sy_onecopy::specs::Outcome::cell_after))]
+#[tactic(auto, unfolding(sy_needs::specs::Elements::cell_after))]
 fn cell_after(needs: &[Need], log: &Log, r: u32, i: u32, v: i128) -> i128
     ensures { result ≡ cell_after needs.now log.now r i v }
 {

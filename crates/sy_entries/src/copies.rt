@@ -2,21 +2,27 @@
 
 ghost use Rattle.std.specs.Prelude.{◌≡◌, ◌<◌, ◌≤◌, ◌^◌, ◌&&◌, ◌||◌, ◌==◌, not, nat_le, IfOk, OnOk, ℕ, List, length, suc};
 ghost use Rattle.std.specs.List.{list_any, list_all};
-ghost use Rattle.sy_onecopy.specs.Copies.{makes, names, replaces, uses, is_elsewhere, has_pair, with_pair, made_after, pairs_after, first_made, copies_of, copies};
+ghost use Rattle.sy_onecopy.specs.Copies.{makes, names, uses, is_elsewhere, has_pair, with_pair, made_after, pairs_after, first_made, copies_of, copies};
+ghost use Rattle.sy_needs.specs.Versions.{renews, covers, forgoes, replaces};
 
 use std::alloc::{AllocError, Global};
 use sy_access::Need;
 use sy_onecopy::{Buffer, Entry, Origin};
+
+/// Whether a need on the buffer writes.
+#[tactic(auto, unfolding(sy_needs::specs::Versions::renews))]
+fn renews(needs: &[Need], r: u32) -> bool
+    ensures { result ≡ renews needs.now r }
+{
+    needs.iter().any(|n| n.buffer == r && n.mode.writes())
+}
 
 /// Whether the entry makes a new version of the buffer.
 #[tactic(auto, unfolding(sy_onecopy::specs::Copies::makes))]
 fn makes(e: &Entry, r: u32) -> bool
     ensures { result ≡ makes e.now r }
 {
-    e.needs
-        .items()
-        .iter()
-        .any(|n| n.buffer == r && n.mode.writes())
+    renews(e.needs.items(), r)
 }
 
 fn names(e: &Entry, r: u32) -> bool
@@ -26,17 +32,29 @@ fn names(e: &Entry, r: u32) -> bool
 }
 
 /// Whether a need has all of so many elements of the buffer.
-fn one_has_all(needs: &[Need], r: u32, count: usize) -> bool
-    ensures { result ≡ list_any (λ n. n.buffer == r && (n.from == 0 && nat_le count n.to)) needs.now }
+#[tactic(auto, unfolding(sy_needs::specs::Versions::covers))]
+fn covers(needs: &[Need], r: u32, count: usize) -> bool
+    ensures { result ≡ covers needs.now r count }
 {
-    needs.iter().any(|n| n.buffer == r && (n.from == 0 && count <= n.to as usize))
+    needs
+        .iter()
+        .any(|n| n.buffer == r && n.from == 0 && count <= n.to as usize)
 }
 
 /// Whether each need on the buffer has no_init.
-fn none_keeps(needs: &[Need], r: u32) -> bool
-    ensures { result ≡ list_all (λ n. not (n.buffer == r) || n.no_init) needs.now }
+#[tactic(auto, unfolding(sy_needs::specs::Versions::forgoes))]
+fn forgoes(needs: &[Need], r: u32) -> bool
+    ensures { result ≡ forgoes needs.now r }
 {
     needs.iter().all(|n| n.buffer != r || n.no_init)
+}
+
+/// Whether the command does not need the current numbers of a buffer of so many elements.
+#[tactic(auto, unfolding(sy_needs::specs::Versions::replaces))]
+fn replaces(needs: &[Need], r: u32, count: usize) -> bool
+    ensures { result ≡ replaces needs.now r count }
+{
+    covers(needs, r, count) && forgoes(needs, r)
 }
 
 /// Whether the entry needs the current version of a buffer of so many elements.
@@ -44,8 +62,7 @@ fn none_keeps(needs: &[Need], r: u32) -> bool
 fn uses(e: &Entry, r: u32, count: usize) -> bool
     ensures { result ≡ uses e.now r count }
 {
-    let needs = e.needs.items();
-    names(e, r) && !(one_has_all(needs, r, count) && none_keeps(needs, r))
+    names(e, r) && !replaces(e.needs.items(), r, count)
 }
 
 /// Whether a version was made at a place, or everywhere, and not at this place.

@@ -2,7 +2,7 @@
 
 ghost use Rattle.std.specs.Prelude.{◌≡◌, ◌+◌, ◌*◌, ◌<◌, ◌≤◌, ◌^◌, All, length, slice_get, MatchOption, sum_by, if◌then◌else◌};
 ghost use Rattle.sy_range.specs.LinearIds.{product};
-ghost use Rattle.sy_onecopy.specs.Step.{is_part, is_root, count_of, is_root_need, live_elements, has_count, is_alike, are_different, are_root_needs, are_below, is_cell_need, has_needs};
+ghost use Rattle.sy_onecopy.specs.Step.{is_part, is_root, count_of, writes_if_fresh, is_root_need, live_elements, has_count, is_alike, are_different, are_root_needs, are_below, is_cell_need, has_needs};
 ghost use Rattle.sy_entries.specs.Sizes.{AreNumbered, Fitting};
 ghost use Rattle.std.specs.List.{list_any, list_all};
 
@@ -40,12 +40,20 @@ pub fn count_of(buffers: &[Buffer], r: u32) -> usize
     }
 }
 
-/// Whether the need names a root and a run of its elements.
+/// Whether the need writes if it has no_init.
+fn writes_if_fresh(n: &Need) -> bool
+    ensures { result ≡ writes_if_fresh n.now }
+{
+    n.mode.writes() || !n.no_init
+}
+
+/// Whether the need names a root and a run of its elements, and writes if it has no_init.
 #[tactic(auto, unfolding(sy_onecopy::specs::Step::is_root_need))]
 pub fn is_root_need(buffers: &[Buffer], n: &Need) -> bool
     ensures { result ≡ is_root_need buffers.now n.now }
 {
-    is_root(buffers, n.buffer) && (n.from <= n.to && n.to as usize <= count_of(buffers, n.buffer))
+    is_root(buffers, n.buffer)
+        && (n.from <= n.to && (n.to as usize <= count_of(buffers, n.buffer) && writes_if_fresh(n)))
 }
 
 /// Whether the numbers that a buffer is over, if there are any, are as many as its range has.

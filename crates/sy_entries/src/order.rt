@@ -1,7 +1,8 @@
 // Which entries come before which.
 
 ghost use Rattle.std.specs.Prelude.{◌≡◌, ◌≤◌, length};
-ghost use Rattle.sy_onecopy.specs.Before.{meets, meet, is_node, is_named, both_on, before, blocks, is_held, is_done, is_pending, is_free};
+ghost use Rattle.sy_onecopy.specs.Before.{meet, is_node, is_named, before, blocks, is_held, is_done, is_pending, is_free};
+ghost use Rattle.sy_needs.specs.Order.{meets, both_on};
 
 use sy_access::{Need, apart, conflicts};
 use sy_onecopy::{Entry, Stage, Work};
@@ -40,9 +41,8 @@ fn is_pending(stage: &Stage) -> bool
 }
 
 /// Whether a need at a place and a need of another entry conflict or are apart.
-#[tactic(auto, unfolding(sy_onecopy::specs::Before::meets))]
 fn meets(a: &Need, place: u32, y: &Entry) -> bool
-    ensures { result ≡ meets a.now place y.now }
+    ensures { result ≡ meets a.now place y.now.needs y.now.place }
 {
     y.needs
         .items()

@@ -1,34 +1,20 @@
 -- Which nodes come before which, and which are ready.
-use Rattle.std.specs.Prelude.{◌≡◌, ℕ, ◌<◌, Bool, false, not, ◌||◌, ◌==◌, List, take, Option, Some, None, slice_get}
+use Rattle.std.specs.Prelude.{◌≡◌, ℕ, ◌<◌, Bool, false, not, ◌==◌, List, take, Option, Some, None, slice_get}
 use Rattle.std.specs.List.{list_any, enumerate_from}
-use Rattle.sy_access.specs.declared.access.Need.{Need}
-use Rattle.sy_access.specs.Needs.{conflict, is_apart}
 use Rattle.sy_graph.specs.declared.node.Node.{Node}
-
--- a need of an entry at place p and a need of one at place q conflict or are apart
-abbrev pub meets : Need → ℕ → ℕ → Need → Bool
-meets a p q b = conflict a b || is_apart a p b q
-
--- a need of the node and the need a, of an entry at place p, conflict or are apart
-unfoldable pub has_meeting : Node → ℕ → Need → Bool
-has_meeting y p a = list_any (λ b. meets a p y.place b) y.needs
+use Rattle.sy_needs.specs.Order.{needs_meet, is_before}
 
 -- a need of the one and a need of the other conflict or are apart
 unfoldable pub meet : Node → Node → Bool
-meet x y = list_any (has_meeting y x.place) x.needs
+meet x y = needs_meet x.needs x.place y.needs y.place
 
 -- y names the number n in its list `after`
 unfoldable pub names : Node → ℕ → Bool
 names y n = list_any (λ m. m == n) y.after
 
-abbrev pub same_queue : Option ℕ → Option ℕ → Bool
-same_queue (Some p) (Some q) = p == q
-same_queue (Some p) None = false
-same_queue None q = false
-
 -- the earlier node x, whose number is n, comes before y
 unfoldable pub before : Node → ℕ → Node → Bool
-before x n y = meet x y || (names y n || same_queue x.in_order y.in_order)
+before x n y = is_before (meet x y) (names y n) x.in_order y.in_order
 
 -- what is left of a node that is done is None; a pending one holds back what it comes before
 abbrev pub holds : Node → ℕ → Option Node → Bool

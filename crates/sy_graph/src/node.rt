@@ -1,7 +1,8 @@
 // Nodes, and which of them come before which.
 
 ghost use Rattle.std.specs.Prelude.{◌≡◌};
-ghost use Rattle.sy_graph.specs.Before.{meets, has_meeting, meet, names, same_queue, before};
+ghost use Rattle.sy_graph.specs.Before.{meet, names, before};
+ghost use Rattle.sy_needs.specs.Order.{meets_one, meets, both_on};
 
 use sy_access::{Need, Needs, Numbers, apart, conflicts};
 
@@ -18,9 +19,8 @@ pub struct Node {
 impl Node {
     /// Whether a need of this node and the need `a`, of an entry at the place `p`, conflict or are
     /// apart.
-    #[tactic(auto, unfolding(crate::specs::Before::has_meeting))]
     fn has_meeting(&self, p: u32, a: &Need) -> bool
-        ensures { result ≡ has_meeting self.now p a.now }
+        ensures { result ≡ meets a.now p self.now.needs self.now.place }
     {
         self.needs
             .items()
@@ -45,8 +45,9 @@ fn meet(x: &Node, y: &Node) -> bool
     x.needs.items().iter().any(|a| y.has_meeting(x.place, a))
 }
 
-fn same_queue(a: Option<u32>, b: Option<u32>) -> bool
-    ensures { result ≡ same_queue a b }
+/// Whether both are nodes of one in-order queue.
+fn both_on(a: Option<u32>, b: Option<u32>) -> bool
+    ensures { result ≡ both_on a b }
 {
     match (a, b) {
         (Some(p), Some(q)) => p == q,
@@ -60,5 +61,5 @@ fn same_queue(a: Option<u32>, b: Option<u32>) -> bool
 pub fn before(x: &Node, n: u32, y: &Node) -> bool
     ensures { result ≡ before x.now n y.now }
 {
-    meet(x, y) || y.names(n) || same_queue(x.in_order, y.in_order)
+    meet(x, y) || y.names(n) || both_on(x.in_order, y.in_order)
 }

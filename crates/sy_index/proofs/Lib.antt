@@ -1,6 +1,6 @@
-pub mod Behind
-pub mod Counts
-pub mod Changed
-pub mod Covering
-pub mod Index
-pub mod Kept
+pub mod DoneLemmas
+pub mod CountLemmas
+pub mod SlotLemmas
+pub mod CoverLemmas
+pub mod EdgeLemmas
+pub mod IndexLemmas

@@ -83,7 +83,7 @@ impl Model for Slots {
 }
 
 impl Slots {
-    #[tactic(auto, using(crate::proofs::Behind::behind_steps))]
+    #[tactic(auto, using(crate::proofs::DoneLemmas::behind_steps))]
     pub fn new(alloc: Global) -> Slots
         ensures { result ≡ [] }
     {
@@ -93,7 +93,7 @@ impl Slots {
         }
     }
 
-    #[tactic(auto, using(crate::proofs::Behind::behind_steps))]
+    #[tactic(auto, using(crate::proofs::DoneLemmas::behind_steps))]
     pub fn len(&self) -> usize
         ensures { result ≡ length self.now }
     {
@@ -101,7 +101,7 @@ impl Slots {
     }
 
     /// The slot of the node `n`, where that is pending.
-    #[tactic(auto, using(crate::proofs::Behind::behind_steps))]
+    #[tactic(auto, using(crate::proofs::DoneLemmas::behind_steps))]
     fn pending(&self, n: u32) -> Option<&Slot>
         ensures { option_copied result ≡ pending self.now n }
     {
@@ -201,7 +201,7 @@ impl Slots {
     }
 
     /// Adds a pending node; for want of memory hands it back.
-    #[tactic(auto, using(crate::proofs::Behind::behind_steps))]
+    #[tactic(auto, using(crate::proofs::DoneLemmas::behind_steps))]
     fn push(&mut self, slot: Slot) -> Result<(), Slot>
         requires { length self.old < 2 ^ 32 }
         ensures ok { OnOk result (self.new ≡ self.old ++ Some slot ∷ []) }
@@ -215,7 +215,7 @@ impl Slots {
     }
 
     /// Takes a node that is done.
-    #[tactic(auto, using(crate::proofs::Behind::behind_steps))]
+    #[tactic(auto, using(crate::proofs::DoneLemmas::behind_steps))]
     pub fn take(&mut self, n: u32) -> Option<Slot>
         requires { n < length self.old }
         ensures taken { slice_get self.old n ≡ Some result }
@@ -231,7 +231,7 @@ impl Slots {
     }
 
     /// Adds an edge from `m` to `n`.
-    #[tactic(auto, using(crate::proofs::Behind::behind_steps))]
+    #[tactic(auto, using(crate::proofs::DoneLemmas::behind_steps))]
     fn link(&mut self, m: u32, n: u32) -> Result<(), AllocError>
         ensures ok { OnOk result (self.new ≡ changed (with_successor n) self.old m) }
         ensures err { OnErr result (self.new ≡ self.old) }
@@ -244,7 +244,7 @@ impl Slots {
     }
 
     /// Takes back the last edge from `m`.
-    #[tactic(auto, using(crate::proofs::Behind::behind_steps))]
+    #[tactic(auto, using(crate::proofs::DoneLemmas::behind_steps))]
     fn unlink(&mut self, m: u32)
         ensures { self.new ≡ changed without_last self.old m }
     {
@@ -255,7 +255,7 @@ impl Slots {
     }
 
     /// Adds an edge from each of the nodes to `n`.
-    #[tactic(auto, using(crate::proofs::Changed::link_steps))]
+    #[tactic(auto, using(crate::proofs::SlotLemmas::link_steps))]
     fn link_all(&mut self, ms: &[u32], n: u32) -> Result<(), AllocError>
         ensures ok { OnOk result (self.new ≡ linked self.old n ms.now) }
         ensures err { OnErr result (self.new ≡ self.old) }
@@ -273,7 +273,7 @@ impl Slots {
     }
 
     /// Takes back the last edge from each of the nodes, the last node first.
-    #[tactic(auto, using(crate::proofs::Changed::unlink_steps))]
+    #[tactic(auto, using(crate::proofs::SlotLemmas::unlink_steps))]
     fn unlink_all(&mut self, ms: &[u32])
         ensures { self.new ≡ unlinked self.old (reverse ms.now) }
     {
@@ -283,7 +283,7 @@ impl Slots {
     }
 
     /// Tells a node that one of those it waits for is done.
-    #[tactic(auto, using(crate::proofs::Behind::behind_steps))]
+    #[tactic(auto, using(crate::proofs::DoneLemmas::behind_steps))]
     fn tell(&mut self, m: u32)
         ensures { self.new ≡ changed with_fewer self.old m }
     {
@@ -294,7 +294,7 @@ impl Slots {
     }
 
     /// Tells each of the nodes that one of those it waits for is done.
-    #[tactic(auto, using(crate::proofs::Changed::tell_steps))]
+    #[tactic(auto, using(crate::proofs::SlotLemmas::tell_steps))]
     pub fn tell_all(&mut self, ms: &[u32])
         ensures { self.new ≡ told self.old ms.now }
     {
@@ -304,7 +304,7 @@ impl Slots {
     }
 }
 
-#[tactic(auto, using(crate::proofs::Behind::slot_steps))]
+#[tactic(auto, using(crate::proofs::DoneLemmas::slot_steps))]
 fn slot_at(slots: &VecDeque<Option<Slot>>, i: usize) -> Option<&Slot>
     ensures { option_copied result ≡ unwrap_or (slice_get slots.now.items i) None }
 {
@@ -315,7 +315,7 @@ fn slot_at(slots: &VecDeque<Option<Slot>>, i: usize) -> Option<&Slot>
     }
 }
 
-#[tactic(auto, using(crate::proofs::Changed::change_steps))]
+#[tactic(auto, using(crate::proofs::SlotLemmas::change_steps))]
 fn link_at(slots: &mut VecDeque<Option<Slot>>, i: usize, n: u32) -> Result<(), AllocError>
     ensures ok { OnOk result (slots.new.items ≡ changed (with_successor n) slots.old.items i) }
     ensures err { OnErr result (slots.new.items ≡ slots.old.items) }
@@ -326,7 +326,7 @@ fn link_at(slots: &mut VecDeque<Option<Slot>>, i: usize, n: u32) -> Result<(), A
     link_slot(&mut slots[i], n)
 }
 
-#[tactic(auto, using(crate::proofs::Changed::change_steps))]
+#[tactic(auto, using(crate::proofs::SlotLemmas::change_steps))]
 fn unlink_at(slots: &mut VecDeque<Option<Slot>>, i: usize)
     ensures { slots.new.items ≡ changed without_last slots.old.items i }
 {
@@ -335,7 +335,7 @@ fn unlink_at(slots: &mut VecDeque<Option<Slot>>, i: usize)
     }
 }
 
-#[tactic(auto, using(crate::proofs::Changed::change_steps))]
+#[tactic(auto, using(crate::proofs::SlotLemmas::change_steps))]
 fn tell_at(slots: &mut VecDeque<Option<Slot>>, i: usize)
     ensures { slots.new.items ≡ changed with_fewer slots.old.items i }
 {

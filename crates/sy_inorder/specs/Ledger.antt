@@ -8,7 +8,7 @@ use Rattle.sy_onecopy.specs.declared.Entry.{Entry}
 use Rattle.sy_onecopy.specs.State.{Board, State, start, next_ask}
 use Rattle.sy_onecopy.specs.Before.{is_done}
 use Rattle.sy_onecopy.specs.Step.{access_from, apply, begun, step}
-use Rattle.sy_inorder.specs.Story.{story, is_any, is_over}
+use Rattle.sy_inorder.specs.Sequential.{execute, is_any, is_over}
 
 pub record Ledger : Type 0 where
   -- the buffers as they were made
@@ -63,9 +63,9 @@ abbrev pub ledger_of : Program → List ℕ → Ledger
 ledger_of p order = ledger_from p (start p) empty order
 
 -- what the buffers hold after all these entries, done one after another in their order
-abbrev pub in_order : OutcomeOf → Ledger → List Entry → List Buffer
-in_order out l entries = story (record { out = out; given = closed_with l.closings; tells = is_any }) 0 entries l.made
+abbrev pub execute_all : OutcomeOf → Ledger → List Entry → List Buffer
+execute_all out l entries = execute (record { out = out; given = closed_with l.closings; includes = is_any }) 0 entries l.made
 
 -- the same with those alone that are done
-abbrev pub done_in_order : OutcomeOf → Ledger → List Entry → List Buffer
-done_in_order out l entries = story (record { out = out; given = closed_with l.closings; tells = is_over }) 0 entries l.made
+abbrev pub execute_done : OutcomeOf → Ledger → List Entry → List Buffer
+execute_done out l entries = execute (record { out = out; given = closed_with l.closings; includes = is_over }) 0 entries l.made

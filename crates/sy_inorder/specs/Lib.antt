@@ -1,4 +1,4 @@
-pub mod Story
+pub mod Sequential
 pub mod Ledger
 pub mod Effects
 pub mod Reading

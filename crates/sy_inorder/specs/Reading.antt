@@ -4,7 +4,8 @@ use Rattle.std.specs.List.{list_all}
 use Rattle.sy_access.specs.declared.access.Need.{Need}
 use Rattle.sy_access.specs.Needs.{writes}
 use Rattle.sy_onecopy.specs.declared.Entry.{Entry}
-use Rattle.sy_onecopy.specs.Before.{both_on, is_done, is_named, meet}
+use Rattle.sy_onecopy.specs.Before.{is_done, is_named, meet}
+use Rattle.sy_needs.specs.Order.{both_on}
 
 -- no need writes
 unfoldable pub only_reads : List Need → Bool

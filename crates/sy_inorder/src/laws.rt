@@ -16,15 +16,16 @@ ghost use Rattle.sy_onecopy.specs.declared.Entry.{Entry};
 ghost use Rattle.sy_onecopy.specs.declared.Waits.TheVariants.{Due};
 ghost use Rattle.sy_onecopy.specs.declared.Work.TheVariants.{Node, Access, End};
 ghost use Rattle.sy_onecopy.specs.Before.{before, is_done, is_held, is_pending};
-ghost use Rattle.sy_onecopy.specs.Outcome.{inputs, is_written, values_at};
+ghost use Rattle.sy_onecopy.specs.Outcome.{inputs, values_at};
+ghost use Rattle.sy_needs.specs.Elements.{is_written};
 ghost use Rattle.sy_onecopy.specs.Sequence.{is_legal, seq};
 ghost use Rattle.sy_onecopy.specs.Settle.{first_of, settle_upto};
 ghost use Rattle.sy_onecopy.specs.State.{Board, State, next_ask};
 ghost use Rattle.sy_onecopy.specs.Step.{is_root_need};
 ghost use Rattle.sy_inorder.specs.Effects.{TakesEffect, turned};
-ghost use Rattle.sy_inorder.specs.Ledger.{Ledger, asked, closed_with, done_in_order, in_order, ledger_of};
+ghost use Rattle.sy_inorder.specs.Ledger.{Ledger, asked, closed_with, execute_done, execute_all, ledger_of};
 ghost use Rattle.sy_inorder.specs.Reading.{all_keep_off, all_let_read, follows, follows_none, only_reads};
-ghost use Rattle.sy_inorder.specs.Story.{Telling, element, numbers_of, some_has, some_writes, stage_by, story};
+ghost use Rattle.sy_inorder.specs.Sequential.{Execution, element, numbers_of, some_has, some_writes, stage_by, execute};
 
 /// Of two entries that only read, neither waits for the other, unless it names it or they are nodes
 /// of one in-order queue. In each state of a legal sequence an entry that meets and follows none of
@@ -39,14 +40,14 @@ pub fn readers_do_not_wait()
     ensures opened { (p : Program) (order : List ℕ) (s : State) (t : ℕ) (n : Need) → seq p order ≡ Some s → is_legal p s t ≡ true → next_ask p s t ≡ OpenHost n → is_root_need s.board.buffers n ≡ true → only_reads (n ∷ []) ≡ true → all_let_read s.board.entries ≡ true → slice_get (turned p s t).waits t ≡ Some (Due (Contents (first_of (inputs s.board.buffers (n ∷ []))))) }
 {}
 
-/// In the plain story an element that no entry writes keeps its first number, and else it has what
+/// In a sequential execution an element that no entry writes keeps its first number, and else it has what
 /// the last entry that writes it left: for a command the number that its log has for the element,
 /// and for a host access the one that it was closed with.
 pub fn the_last_writer_decides()
-    ensures first { (s : Telling) (k : ℕ) (entries : List Entry) (buffers : List Buffer) (b i : ℕ) → some_writes entries b i ≡ false → element (story s k entries buffers) b i ≡ element buffers b i }
-    ensures last { (out : OutcomeOf) (l : Ledger) (entries : List Entry) (j b i : ℕ) → some_writes (drop (suc j) entries) b i ≡ false → element (in_order out l entries) b i ≡ element (in_order out l (take (suc j) entries)) b i }
-    ensures wrote { (out : OutcomeOf) (l : Ledger) (entries : List Entry) (j b i n q : ℕ) (e : Entry) (c : Command) (log : List (Cell × ℤ)) (v : ℤ) → slice_get entries j ≡ Some e → e.work ≡ Node n q c → out c (inputs (in_order out l (take j entries)) e.needs) ≡ Wrote log → is_written e.needs b i ≡ true → logged log (cell.Buffer b i) ≡ Some v → i < length (values_at l.made b) → element (in_order out l (take (suc j) entries)) b i ≡ Some v }
-    ensures closed { (out : OutcomeOf) (l : Ledger) (entries : List Entry) (j b i t a : ℕ) (e : Entry) (n : Need) (v : ℤ) → slice_get entries j ≡ Some e → e.work ≡ Access t a → e.needs ≡ n ∷ [] → writes n.mode ≡ true → has_cell n b i ≡ true → slice_get (closed_with l.closings j) (i - n.from) ≡ Some v → i < length (values_at l.made b) → element (in_order out l (take (suc j) entries)) b i ≡ Some v }
+    ensures first { (s : Execution) (k : ℕ) (entries : List Entry) (buffers : List Buffer) (b i : ℕ) → some_writes entries b i ≡ false → element (execute s k entries buffers) b i ≡ element buffers b i }
+    ensures last { (out : OutcomeOf) (l : Ledger) (entries : List Entry) (j b i : ℕ) → some_writes (drop (suc j) entries) b i ≡ false → element (execute_all out l entries) b i ≡ element (execute_all out l (take (suc j) entries)) b i }
+    ensures wrote { (out : OutcomeOf) (l : Ledger) (entries : List Entry) (j b i n q : ℕ) (e : Entry) (c : Command) (log : List (Cell × ℤ)) (v : ℤ) → slice_get entries j ≡ Some e → e.work ≡ Node n q c → out c (inputs (execute_all out l (take j entries)) e.needs) ≡ Wrote log → is_written e.needs b i ≡ true → logged log (cell.Buffer b i) ≡ Some v → i < length (values_at l.made b) → element (execute_all out l (take (suc j) entries)) b i ≡ Some v }
+    ensures closed { (out : OutcomeOf) (l : Ledger) (entries : List Entry) (j b i t a : ℕ) (e : Entry) (n : Need) (v : ℤ) → slice_get entries j ≡ Some e → e.work ≡ Access t a → e.needs ≡ n ∷ [] → writes n.mode ≡ true → has_cell n b i ≡ true → slice_get (closed_with l.closings j) (i - n.from) ≡ Some v → i < length (values_at l.made b) → element (execute_all out l (take (suc j) entries)) b i ≡ Some v }
 {}
 
 /// In each state of a legal sequence the buffers hold what the entries that are done leave when they
@@ -55,11 +56,11 @@ pub fn the_last_writer_decides()
 /// takes effect: of each element that it names, what the last one that writes the element left, or
 /// its first number.
 pub fn commands_run_as_if_in_order()
-    ensures buffers { (p : Program) (order : List ℕ) (s : State) → seq p order ≡ Some s → numbers_of s.board.buffers ≡ numbers_of (done_in_order p.outcome (ledger_of p order) s.board.entries) }
-    ensures outcomes { (p : Program) (order : List ℕ) (s : State) (k n q : ℕ) (e : Entry) (c : Command) → seq p order ≡ Some s → slice_get s.board.entries k ≡ Some e → e.work ≡ Node n q c → is_done e.stage ≡ true → e.stage ≡ stage_by (p.outcome c (inputs (in_order p.outcome (ledger_of p order) (take k s.board.entries)) e.needs)) }
-    ensures inputs { (p : Program) (order : List ℕ) (s : State) (t k : ℕ) (e : Entry) (m : Board) → TakesEffect p order s t k e m → inputs m.buffers e.needs ≡ inputs (in_order p.outcome (ledger_of p (order ++ t ∷ [])) (take k m.entries)) e.needs }
+    ensures buffers { (p : Program) (order : List ℕ) (s : State) → seq p order ≡ Some s → numbers_of s.board.buffers ≡ numbers_of (execute_done p.outcome (ledger_of p order) s.board.entries) }
+    ensures outcomes { (p : Program) (order : List ℕ) (s : State) (k n q : ℕ) (e : Entry) (c : Command) → seq p order ≡ Some s → slice_get s.board.entries k ≡ Some e → e.work ≡ Node n q c → is_done e.stage ≡ true → e.stage ≡ stage_by (p.outcome c (inputs (execute_all p.outcome (ledger_of p order) (take k s.board.entries)) e.needs)) }
+    ensures inputs { (p : Program) (order : List ℕ) (s : State) (t k : ℕ) (e : Entry) (m : Board) → TakesEffect p order s t k e m → inputs m.buffers e.needs ≡ inputs (execute_all p.outcome (ledger_of p (order ++ t ∷ [])) (take k m.entries)) e.needs }
     ensures first { (p : Program) (order : List ℕ) (s : State) (t k b i : ℕ) (e : Entry) (m : Board) → TakesEffect p order s t k e m → some_has e.needs b i ≡ true → some_writes (take k m.entries) b i ≡ false → element m.buffers b i ≡ element (ledger_of p (order ++ t ∷ [])).made b i }
-    ensures last { (p : Program) (order : List ℕ) (s : State) (t k j b i : ℕ) (e : Entry) (m : Board) → TakesEffect p order s t k e m → some_has e.needs b i ≡ true → some_writes (drop (suc j) (take k m.entries)) b i ≡ false → element m.buffers b i ≡ element (in_order p.outcome (ledger_of p (order ++ t ∷ [])) (take (suc j) (take k m.entries))) b i }
+    ensures last { (p : Program) (order : List ℕ) (s : State) (t k j b i : ℕ) (e : Entry) (m : Board) → TakesEffect p order s t k e m → some_has e.needs b i ≡ true → some_writes (drop (suc j) (take k m.entries)) b i ≡ false → element m.buffers b i ≡ element (execute_all p.outcome (ledger_of p (order ++ t ∷ [])) (take (suc j) (take k m.entries))) b i }
 {}
 
 /// An entry that is pending as an ask leaves it, and no longer is after the turn, has taken effect on
@@ -71,11 +72,11 @@ pub fn what_leaves_the_pending_ones_took_effect()
 /// A host access that is granted gets the numbers that all the entries before it leave when they are
 /// done one after another in their order.
 pub fn a_host_access_gets_what_the_last_writers_left()
-    ensures { (p : Program) (order : List ℕ) (s : State) (t k u i : ℕ) (e : Entry) (m : Board) → TakesEffect p order s t k e m → e.work ≡ Access u i → slice_get (turned p s t).waits u ≡ Some (Due (Contents (first_of (inputs (in_order p.outcome (ledger_of p (order ++ t ∷ [])) (take k m.entries)) e.needs)))) }
+    ensures { (p : Program) (order : List ℕ) (s : State) (t k u i : ℕ) (e : Entry) (m : Board) → TakesEffect p order s t k e m → e.work ≡ Access u i → slice_get (turned p s t).waits u ≡ Some (Due (Contents (first_of (inputs (execute_all p.outcome (ledger_of p (order ++ t ∷ [])) (take k m.entries)) e.needs)))) }
 {}
 
 /// When a buffer over a vector ends, the vector gets the numbers that all the entries before the end
 /// leave when they are done one after another in their order.
 pub fn a_vector_gets_what_the_last_writer_left()
-    ensures { (p : Program) (order : List ℕ) (s : State) (t k u r : ℕ) (e : Entry) (m : Board) → TakesEffect p order s t k e m → e.work ≡ End u r → slice_get (turned p s t).waits u ≡ Some (Due (Contents (values_at (in_order p.outcome (ledger_of p (order ++ t ∷ [])) (take k m.entries)) r))) }
+    ensures { (p : Program) (order : List ℕ) (s : State) (t k u r : ℕ) (e : Entry) (m : Board) → TakesEffect p order s t k e m → e.work ≡ End u r → slice_get (turned p s t).waits u ≡ Some (Due (Contents (values_at (execute_all p.outcome (ledger_of p (order ++ t ∷ [])) (take k m.entries)) r))) }
 {}

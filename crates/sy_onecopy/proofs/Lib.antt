@@ -1,3 +1,4 @@
-pub mod Settled
-pub mod Commute
-pub mod Steps
+pub mod SettleLemmas
+pub mod WriteLemmas
+pub mod StepLemmas
+pub mod RunLemmas

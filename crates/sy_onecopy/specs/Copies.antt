@@ -1,27 +1,22 @@
 -- How many copies a run needs.
-use Rattle.std.specs.Prelude.{ℕ, suc, ◌+◌, Bool, false, not, ◌&&◌, ◌||◌, ◌==◌, nat_le, if◌then◌else◌, List, [], ◌∷◌, length, Option, Some, None}
-use Rattle.std.specs.List.{list_any, list_all}
-use Rattle.sy_access.specs.Needs.{writes}
+use Rattle.std.specs.Prelude.{ℕ, suc, ◌+◌, Bool, false, not, ◌&&◌, ◌==◌, if◌then◌else◌, List, [], ◌∷◌, length, Option, Some, None}
+use Rattle.std.specs.List.{list_any}
 use Rattle.sy_onecopy.specs.declared.Entry.{Entry}
 use Rattle.sy_onecopy.specs.declared.Buffer.{Buffer}
 use Rattle.sy_onecopy.specs.declared.Origin.{Origin}
 use Rattle.sy_onecopy.specs.declared.Origin.TheVariants.{Vector, Range, Part}
+use Rattle.sy_needs.specs.Versions.{renews, replaces}
 
 -- the entry makes a new version of the buffer
 unfoldable pub makes : Entry → ℕ → Bool
-makes e r = list_any (λ n. n.buffer == r && writes n.mode) e.needs
+makes e r = renews e.needs r
 
 abbrev pub names : Entry → ℕ → Bool
 names e r = list_any (λ n. n.buffer == r) e.needs
 
--- one of its needs has all of so many elements, and all its needs on the buffer have no_init
-abbrev pub replaces : Entry → ℕ → ℕ → Bool
-replaces e r count =
-    list_any (λ n. n.buffer == r && (n.from == 0 && nat_le count n.to)) e.needs && list_all (λ n. not (n.buffer == r) || n.no_init) e.needs
-
 -- the entry needs the current version of a buffer of so many elements
 unfoldable pub uses : Entry → ℕ → ℕ → Bool
-uses e r count = names e r && not (replaces e r count)
+uses e r count = names e r && not (replaces e.needs r count)
 
 -- a version was made at a place, or everywhere, and not at this place
 abbrev pub is_elsewhere : Option ℕ → ℕ → Bool
@@ -49,6 +44,16 @@ abbrev pub pairs_from : ℕ → ℕ → List Entry → ℕ → Option ℕ → Li
 pairs_from r count [] version made pairs = pairs
 pairs_from r count (e ∷ es) version made pairs =
     pairs_from r count es (version_after e r version) (made_after e r made) (pairs_after e r count version made pairs)
+
+-- the version after these entries
+abbrev pub version_from : ℕ → List Entry → ℕ → ℕ
+version_from r [] version = version
+version_from r (e ∷ es) version = version_from r es (version_after e r version)
+
+-- where it is made
+abbrev pub made_from : ℕ → List Entry → Option ℕ → Option ℕ
+made_from r [] made = made
+made_from r (e ∷ es) made = made_from r es (made_after e r made)
 
 -- where the first version is made: of a buffer over a vector at the host, of one from a range everywhere
 abbrev pub first_made : Origin → Option ℕ

@@ -1,11 +1,6 @@
 -- A function of place and member over a list, and a change of one member.
 use Rattle.std.specs.Prelude.{ℕ, zero, suc, List, [], ◌∷◌}
 
--- the function of place and member at each member, where the first has this place
-abbrev pub each_from : {A B : Type 0} → (ℕ → A → B) → ℕ → List A → List B
-each_from f k [] = []
-each_from f k (x ∷ xs) = f k x ∷ each_from f (suc k) xs
-
 -- the member at k changed, if it is there
 abbrev pub changed_at : {A : Type 0} → (A → A) → ℕ → List A → List A
 changed_at f k [] = []

@@ -99,29 +99,36 @@ ending_of_threads steps None = Some Stuck
 ending_of_threads steps (Some t) = if nat_lt steps (2 ^ 24) then None else Some HistoryFull
 
 -- main has made its last step with this value
-abbrev pub ending_of_main : Program → State → Option ℤ → Option Ending
-ending_of_main p s (Some v) = if has_open_node s.board.entries then Some Stuck else Some (ending_after_main v (first_error s.board.entries))
-ending_of_main p s None = ending_of_threads s.board.steps (first_thread p s)
+abbrev pub ending_of_main : List Entry → ℤ → Ending
+ending_of_main entries v = if has_open_node entries then Stuck else ending_after_main v (first_error entries)
 
--- a step has ended the run
-abbrev pub ending_of_steps : Program → State → Option Ending → Option Ending
-ending_of_steps p s (Some e) = Some e
-ending_of_steps p s None = ending_of_main p s (value_of_main s.board.waits)
+-- the ending where main has made its last step with a value, or goes on and this is the least thread that may step
+abbrev pub ending_by_main : Board → Option ℕ → Option ℤ → Option Ending
+ending_by_main b first (Some v) = Some (ending_of_main b.entries v)
+ending_by_main b first None = ending_of_threads b.steps first
+
+-- the ending where a step has ended the run, or none has
+abbrev pub ending_by_step : Board → Option ℕ → Option Ending → Option Ending
+ending_by_step b first (Some e) = Some e
+ending_by_step b first None = ending_by_main b first (value_of_main b.waits)
+
+-- the ending of a board on which this is the least thread that may step, if it has one
+abbrev pub ending_at : Board → Option ℕ → Option Ending
+ending_at b first = ending_by_step b first b.ended
 
 -- the ending of a state, if it has one
 unfoldable pub ending : Program → State → Option Ending
-ending p s = ending_of_steps p s s.board.ended
+ending p s = ending_at s.board (first_thread p s)
 
 -- each step was that of the least thread that may step
 abbrev pub IsSerial : Program → State → List ℕ → Type 0
 IsSerial p s [] = Unit {0}
 IsSerial p s (t ∷ ts) = (first_thread p s ≡ Some t) × IsSerial p (step p s t) ts
 
--- the run of the program in this order has this ending, this output and so many copies, and the order is the serial one
+-- the run of the program in this order has this ending, this output and so many copies
 pub record IsRun (p : Program) (order : List ℕ) (end : Ending) (output : List ℕ) (copied : ℕ) : Type 0 where
   pub state : State
   pub legal : seq p order ≡ Some state
   pub ends : ending p state ≡ Some end
   pub written : output ≡ state.board.output
   pub counted : copied ≡ copies state.board.entries state.board.buffers
-  pub serial : IsSerial p (start p) order

@@ -1,6 +1,7 @@
 -- The states of the machine.
-use Rattle.std.specs.Prelude.{ℕ, ℤ, List, [], ◌∷◌, Option, None, slice_index_or}
+use Rattle.std.specs.Prelude.{ℕ, ℤ, List, [], ◌∷◌, Option, Some, None, slice_get}
 use Rattle.sy_work.specs.declared.asks.Ask.{Ask}
+use Rattle.sy_work.specs.declared.asks.Ask.TheVariants.{Barrier}
 use Rattle.sy_work.specs.declared.asks.Answer.{Answer}
 use Rattle.sy_work.specs.declared.endings.Ending.{Ending}
 use Rattle.sy_work.specs.Programs.{Program, NextAsk}
@@ -60,12 +61,14 @@ new_thread body captures = record { body = body; captures = captures; answers = 
 abbrev pub start : Program → State
 start p = record { board = opening; threads = new_thread p.main [] ∷ [] }
 
-abbrev pub thread_at : Program → List Thread → ℕ → Thread
-thread_at p threads t = slice_index_or threads t (new_thread p.main [])
-
 -- what the thread asks next
 abbrev pub ask_of : NextAsk → Thread → Ask
 ask_of next x = next x.body x.captures x.answers
 
+-- the same; of a thread that is not there an ask that does not hold together
+abbrev pub ask_by : NextAsk → Option Thread → Ask
+ask_by next None = Barrier 0 0
+ask_by next (Some x) = ask_of next x
+
 abbrev pub next_ask : Program → State → ℕ → Ask
-next_ask p s t = ask_of p.next (thread_at p s.threads t)
+next_ask p s t = ask_by p.next (slice_get s.threads t)

@@ -32,7 +32,8 @@ use Rattle.sy_onecopy.specs.declared.Stage.{Stage}
 use Rattle.sy_onecopy.specs.declared.Stage.TheVariants.{Pending, Granted, Done, Failed}
 use Rattle.sy_onecopy.specs.declared.Waits.{Waits}
 use Rattle.sy_onecopy.specs.declared.Waits.TheVariants.{Ready, Due, OnEntry, OnNode, OnQueue, OnThread, Never, Finished}
-use Rattle.sy_onecopy.specs.Each.{each_from, changed_at}
+use Rattle.sy_onecopy.specs.Each.{changed_at}
+use Rattle.sy_needs.specs.Each.{each_from}
 use Rattle.sy_onecopy.specs.State.{Board, Thread, State, new_thread, next_ask}
 use Rattle.sy_onecopy.specs.Before.{is_node, is_done}
 use Rattle.sy_onecopy.specs.Settle.{await, reply, to_stage, settle}
@@ -63,10 +64,14 @@ abbrev pub count_of : Option Buffer → ℕ
 count_of None = 0
 count_of (Some x) = length x.values
 
--- the need names a root and a run of its elements
+-- the need writes if it has no_init
+abbrev pub writes_if_fresh : Need → Bool
+writes_if_fresh n = writes n.mode || not n.no_init
+
+-- the need names a root and a run of its elements, and writes if it has no_init
 unfoldable pub is_root_need : List Buffer → Need → Bool
 is_root_need buffers n =
-    is_root (slice_get buffers n.buffer) && (nat_le n.from n.to && nat_le n.to (count_of (slice_get buffers n.buffer)))
+    is_root (slice_get buffers n.buffer) && (nat_le n.from n.to && (nat_le n.to (count_of (slice_get buffers n.buffer)) && writes_if_fresh n))
 
 -- the elements of the buffers that have not ended
 unfoldable pub live_elements : List Buffer → ℕ

@@ -1,6 +1,6 @@
-pub mod Lists
-pub mod Hearing
-pub mod Steps
-pub mod Endings
-pub mod Stepping
-pub mod Running
+pub mod ListLemmas
+pub mod AnswerLemmas
+pub mod HoldLemmas
+pub mod EndingLemmas
+pub mod StepLemmas
+pub mod RunLemmas

@@ -2,22 +2,18 @@
 use Rattle.std.specs.Prelude.{◌≡◌, ℕ, suc, ℤ, true, if◌then◌else◌, List, [], ◌∷◌, length, Option, Some, None, slice_get}
 use Rattle.sy_work.specs.Programs.{Program, NextAsk, OutcomeOf}
 use Rattle.sy_work.specs.declared.asks.Ask.{Ask}
-use Rattle.sy_work.specs.declared.asks.Ask.TheVariants.{Submit}
 use Rattle.sy_work.specs.declared.asks.Answer.{Answer}
-use Rattle.sy_work.specs.declared.asks.Submission.{Submission}
 use Rattle.sy_work.specs.declared.commands.Command.{Command}
 use Rattle.sy_onecopy.specs.State.{Board, Thread, State, start, ask_of, next_ask}
 use Rattle.sy_onecopy.specs.Sequence.{ready_at, is_legal, seq, IsSerial}
+use Rattle.sy_sound.specs.Known.{Knows}
+use Rattle.sy_sound.specs.Agree.{AgreeOn}
 use Rattle.sy_board.specs.Turns.{may_go}
 
--- the program's commands do this, and the host is at the begin of its main
-pub record Begins {H : Type 0} (stands : H → NextAsk → ℕ → List ℤ → List Answer → Type 0) (out : OutcomeOf) (p : Program) (main : H) : Type 0 where
+-- the program's known commands do this on inputs that fit them, and the host is at the begin of its main
+pub record Begins {H : Type 0} (stands : H → NextAsk → ℕ → List ℤ → List Answer → Type 0) (knows : Command → Type 0) (out : OutcomeOf) (p : Program) (main : H) : Type 0 where
   pub at : stands main p.next p.main [] []
-  pub outcome : p.outcome ≡ out
-
--- the commands that the program submits are known
-abbrev pub Knows : (Command → Type 0) → Program → Type 0
-Knows knows p = (order : List ℕ) (s : State) (t : ℕ) (sub : Submission) → seq p order ≡ Some s → is_legal p s t ≡ true → next_ask p s t ≡ Submit sub → knows sub.command
+  pub outcome : AgreeOn knows p.outcome out
 
 -- the host at u stands for the thread, with the thread's next ask open
 pub record StandsAt {H : Type 0} (pending : H → Option Ask) (stands : H → NextAsk → ℕ → List ℤ → List Answer → Type 0) (next : NextAsk) (hosts : List H) (u : ℕ) (x : Thread) : Type 0 where
@@ -44,7 +40,7 @@ pub record Reached {H : Type 0} (pending : H → Option Ask) (stands : H → Nex
 -- thread t may step where a board and hosts stand
 pub record CanStep {H : Type 0} (pending : H → Option Ask) (stands : H → NextAsk → ℕ → List ℤ → List Answer → Type 0) (out : OutcomeOf) (knows : Command → Type 0) (b : Board) (hosts : List H) (asks : List (Option Ask)) (t : ℕ) : Type 0 where
   pub program : Program
-  pub outcome : program.outcome ≡ out
+  pub outcome : AgreeOn knows program.outcome out
   pub known : Knows knows program
   pub order : List ℕ
   pub state : State

@@ -5,4 +5,4 @@
 mod hosts;
 mod run;
 
-pub use run::{End, run_plain};
+pub use run::run_plain;

@@ -2,27 +2,17 @@
 
 ghost use Rattle.std.specs.Prelude.{◌≡◌, ◌+◌, ◌<◌, ◌≤◌, ◌^◌, true, [], ◌∷◌, ℕ, ℤ, List, Option, Some, None, IfOk, OnOk, length};
 ghost use Rattle.sy_work.specs.Programs.{Program};
-ghost use Rattle.sy_onecopy.specs.State.{State};
+ghost use Rattle.sy_onecopy.specs.State.{State, start};
 ghost use Rattle.sy_onecopy.specs.Step.{step};
-ghost use Rattle.sy_onecopy.specs.Sequence.{seq, is_legal, IsRun};
-ghost use Rattle.sy_board.specs.Known.{AllKnown};
-ghost use Rattle.sy_plain.specs.Runs.{Begins, Knows, Hold, CanStep, least};
+ghost use Rattle.sy_onecopy.specs.Sequence.{seq, is_legal, IsRun, IsSerial};
+ghost use Rattle.sy_sound.specs.Known.{AllKnown, Knows};
+ghost use Rattle.sy_sound.specs.Agree.{AgreeOn};
+ghost use Rattle.sy_plain.specs.Runs.{Begins, Hold, CanStep, least};
 
 use crate::hosts::{add_child, hear_all, seat, take_ask};
 use std::alloc::{AllocError, Global};
-use sy_access::Bytes;
 use sy_board::OneCopy;
-use sy_work::{Ask, Ending, Host, Runner};
-
-/// How a run came out: how it ended, the threads of its steps in their order, the bytes printed, and
-/// how many copies it needs.
-#[derive(Debug, Drop)]
-pub struct End {
-    pub ending: Ending,
-    pub order: Vec<u32>,
-    pub output: Bytes,
-    pub copies: u64,
-}
+use sy_work::{Ask, End, Host, Runner};
 
 /// The least thread that may step.
 fn first_thread(board: &OneCopy, asks: &[Option<Ask>]) -> Option<u32>
@@ -50,7 +40,7 @@ fn step<H: Host + Drop, R: Runner>(
     requires known { AllKnown (R.knows runner.now) board.old.entries }
     ensures known { OnOk result (AllKnown (R.knows runner.now) board.new.entries) }
     ensures counted { OnOk result (board.new.steps ≡ board.old.steps + 1) }
-    ensures holds { (p : Program) (order : List ℕ) (s : State) → p.outcome ≡ R.outcome runner.now → seq p order ≡ Some s → is_legal p s t ≡ true → Hold H.pending H.stands p board.old hosts.old.items asks.old.items s → OnOk result (Hold H.pending H.stands p board.new hosts.new.items asks.new.items (step p s t)) }
+    ensures holds { (p : Program) (order : List ℕ) (s : State) → AgreeOn (R.knows runner.now) p.outcome (R.outcome runner.now) → seq p order ≡ Some s → is_legal p s t ≡ true → Hold H.pending H.stands p board.old hosts.old.items asks.old.items s → OnOk result (Hold H.pending H.stands p board.new hosts.new.items asks.new.items (step p s t)) }
 {
     let ask = take_ask(asks, t);
     add_child(hosts, asks, board.threads(), t, &ask)?;
@@ -66,8 +56,9 @@ pub fn run_plain<H: Host + Drop, R: Runner>(
     runner: &R,
 ) -> Result<End, AllocError>
     requires closed { H.pending main ≡ None }
-    requires begins { (p : Program) × Begins H.stands (R.outcome runner.now) p main × Knows (R.knows runner.now) p }
-    ensures run { (p : Program) → Begins H.stands (R.outcome runner.now) p main → IfOk result (λ e. IsRun p e.order.items e.ending e.output e.copies) }
+    requires begins { (p : Program) × Begins H.stands (R.knows runner.now) (R.outcome runner.now) p main × Knows (R.knows runner.now) p }
+    ensures run { (p : Program) → Begins H.stands (R.knows runner.now) (R.outcome runner.now) p main → IfOk result (λ e. IsRun p e.order.items e.ending e.output e.copies) }
+    ensures serial { (p : Program) → Begins H.stands (R.knows runner.now) (R.outcome runner.now) p main → IfOk result (λ e. IsSerial p (start p) e.order.items) }
 {
     let mut board = OneCopy::new(alloc)?;
     let mut hosts = Vec::new(alloc);

@@ -92,6 +92,6 @@ pub record IsAlike (b c : Board) : Type 0 where
 abbrev pub heard : Board → Board
 heard b = record b { waits = map once_heard b.waits }
 
--- the board once its entries have settled, and each answer that is due has reached its thread
-abbrev pub caught_up : OutcomeOf → Board → Board
-caught_up out b = heard (give_all (settle out b))
+-- the board with no deferred effect: its entries have settled, and each answer that is due has reached its thread
+abbrev pub quiesce : OutcomeOf → Board → Board
+quiesce out b = heard (give_all (settle out b))

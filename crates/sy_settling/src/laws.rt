@@ -10,7 +10,7 @@ ghost use Rattle.sy_onecopy.specs.Settle.{await, effect, settle};
 ghost use Rattle.sy_onecopy.specs.State.{Board, State, next_ask, opening};
 ghost use Rattle.sy_onecopy.specs.Step.{apply, begun, give_all, given, once_heard, turn};
 ghost use Rattle.sy_onecopy.specs.Sequence.{is_clear, is_legal, seq};
-ghost use Rattle.sy_settling.specs.Orderly.{IsAlike, IsFreeAt, IsOrderly, MayAsk, caught_up, heard, is_idle};
+ghost use Rattle.sy_settling.specs.Orderly.{IsAlike, IsFreeAt, IsOrderly, MayAsk, quiesce, heard, is_idle};
 
 /// An entry that may take effect does so, whichever it is, and then the board settles: that is settling.
 pub fn one_effect_then_settling()
@@ -39,12 +39,12 @@ pub fn settling_keeps()
     ensures answer { (out : OutcomeOf) (b : Board) (t : ℕ) (q : Ask) → IsOrderly b → MayAsk b t q → slice_get (apply (settle out b) t q).waits t ≡ slice_get (apply b t q).waits t }
 {}
 
-/// A board on which entries have not settled and answers have not been given lags behind the board
-/// that has caught up. A thread whose wait is over may hear of it first, and a step on the one and on
-/// the other comes to the same.
-pub fn lagging_boards_keep_step()
-    ensures heard { (out : OutcomeOf) (b : Board) (t : ℕ) (w : Waits) → IsOrderly b → slice_get b.waits t ≡ Some w → once_heard (given b w) ≡ Ready → caught_up out (await b t Ready) ≡ caught_up out b }
-    ensures step { (out : OutcomeOf) (b : Board) (t : ℕ) (q : Ask) → IsOrderly b → slice_get b.waits t ≡ Some Ready → is_clear b q ≡ true → heard (turn out (caught_up out b) t q) ≡ heard (turn out b t q) }
+/// On a board with deferred effects entries have not settled, or answers have not been given. A thread
+/// whose wait is over may hear of it first, and a step with the effects deferred comes to the same as one
+/// after them.
+pub fn deferred_effects_keep_step()
+    ensures heard { (out : OutcomeOf) (b : Board) (t : ℕ) (w : Waits) → IsOrderly b → slice_get b.waits t ≡ Some w → once_heard (given b w) ≡ Ready → quiesce out (await b t Ready) ≡ quiesce out b }
+    ensures step { (out : OutcomeOf) (b : Board) (t : ℕ) (q : Ask) → IsOrderly b → slice_get b.waits t ≡ Some Ready → is_clear b q ≡ true → heard (turn out (quiesce out b) t q) ≡ heard (turn out b t q) }
 {}
 
 /// What the laws above ask of a board holds at the start, and goes on through effects, settling,

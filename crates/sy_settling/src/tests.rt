@@ -1,5 +1,5 @@
 use crate::laws::{
-    effects_commute_with_asks, effects_commute_with_settling, lagging_boards_keep_step,
+    deferred_effects_keep_step, effects_commute_with_asks, effects_commute_with_settling,
     legal_orders_are_orderly, one_effect_then_settling, order_is_kept, settling_keeps,
 };
 
@@ -9,7 +9,7 @@ fn laws_are_called() {
     effects_commute_with_asks();
     effects_commute_with_settling();
     settling_keeps();
-    lagging_boards_keep_step();
+    deferred_effects_keep_step();
     order_is_kept();
     legal_orders_are_orderly();
 }

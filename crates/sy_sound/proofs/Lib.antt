@@ -1,5 +1,7 @@
-pub mod Lists
-pub mod Standing
-pub mod Keeping
-pub mod Fit
-pub mod Few
+pub mod ListLemmas
+pub mod EntryLemmas
+pub mod SoundLemmas
+pub mod InputLemmas
+pub mod CountLemmas
+pub mod KnownLemmas
+pub mod AgreeLemmas

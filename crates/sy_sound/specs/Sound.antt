@@ -8,15 +8,16 @@ use Rattle.sy_onecopy.specs.declared.Entry.{Entry}
 use Rattle.sy_onecopy.specs.declared.Work.{Work}
 use Rattle.sy_onecopy.specs.declared.Work.TheVariants.{Node, Access, End}
 use Rattle.sy_onecopy.specs.State.{Board}
-use Rattle.sy_onecopy.specs.Step.{is_part, whole, has_needs, are_different, live_elements}
+use Rattle.sy_onecopy.specs.Step.{is_part, writes_if_fresh, whole, has_needs, are_different, live_elements}
 
--- the need names a buffer that has elements of its own, and a run of its elements
+-- the need names a buffer that has elements of its own, and a run of its elements, and writes if it has no_init
 pub record IsHeld (buffers : List Buffer) (n : Need) : Type 0 where
   pub root : Buffer
   pub there : slice_get buffers n.buffer ≡ Some root
   pub own : is_part root.origin ≡ false
   pub up : n.from ≤ n.to
   pub within : n.to ≤ length root.values
+  pub honest : writes_if_fresh n ≡ true
 
 -- the needs hold the node's command, a host access has one need, and the end of a buffer needs all of the buffer
 abbrev pub Suit : List Buffer → List Need → Work → Type 0

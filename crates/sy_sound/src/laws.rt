@@ -1,6 +1,8 @@
 // Laws of the boards of a run, each the contract of a function without parameters.
 
-ghost use Rattle.std.specs.Prelude.{◌≡◌, ℕ, ◌<◌, ◌≤◌, ◌*◌, ◌^◌, List, length, Some, slice_get};
+ghost use Rattle.std.specs.Prelude.{◌≡◌, ℕ, ◌<◌, ◌≤◌, ◌*◌, ◌^◌, List, length, Some, slice_get, Bool, IsTrue};
+ghost use Rattle.sy_sound.specs.Known.{AllKnown, Knows};
+ghost use Rattle.sy_sound.specs.Agree.{AgreeOn, AskAlike};
 ghost use Rattle.sy_work.specs.Inputs.{InputsFit};
 ghost use Rattle.sy_work.specs.Programs.{OutcomeOf, Program};
 ghost use Rattle.sy_work.specs.declared.asks.Ask.{Ask};
@@ -10,7 +12,7 @@ ghost use Rattle.sy_onecopy.specs.declared.Work.TheVariants.{Node};
 ghost use Rattle.sy_onecopy.specs.Copies.{copies};
 ghost use Rattle.sy_onecopy.specs.Outcome.{inputs};
 ghost use Rattle.sy_onecopy.specs.Sequence.{seq};
-ghost use Rattle.sy_onecopy.specs.State.{Board, State, opening};
+ghost use Rattle.sy_onecopy.specs.State.{Board, State, opening, start};
 ghost use Rattle.sy_onecopy.specs.Settle.{settle_upto};
 ghost use Rattle.sy_onecopy.specs.Step.{apply, begun, turn};
 ghost use Rattle.sy_sound.specs.Sound.{IsSound};
@@ -43,4 +45,15 @@ pub fn inputs_fit()
 /// There are no more copies than pairs of a buffer and an entry.
 pub fn copies_are_few()
     ensures { (b : Board) → IsSound b → copies b.entries b.buffers ≤ length b.buffers * length b.entries }
+{}
+
+/// If the commands that a program submits are known, those of the nodes of each of its states are.
+pub fn commands_stay_known()
+    ensures { (knows : Command → Bool) (p : Program) (order : List ℕ) (s : State) → Knows (λ c. IsTrue (knows c)) p → seq p order ≡ Some s → AllKnown (λ c. IsTrue (knows c)) s.board.entries }
+{}
+
+/// Two programs that ask the same in these steps, and whose outcomes agree on the known commands and on
+/// inputs that fit them, come to the same state, or neither may make the steps.
+pub fn programs_that_agree_run_alike()
+    ensures { (knows : Command → Bool) (p q : Program) (order : List ℕ) → q.main ≡ p.main → AgreeOn (λ c. IsTrue (knows c)) q.outcome p.outcome → AskAlike (λ c. IsTrue (knows c)) p q (start p) order → seq q order ≡ seq p order }
 {}

@@ -7,4 +7,6 @@ fn laws_are_called(_rt: HostRuntime) {
     nodes_are_counted();
     inputs_fit();
     copies_are_few();
+    commands_stay_known();
+    programs_that_agree_run_alike();
 }

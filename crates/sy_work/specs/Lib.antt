@@ -3,3 +3,5 @@ pub mod Answers
 pub mod Stops
 pub mod Inputs
 pub mod Moves
+pub mod Reductions
+pub mod Collective

@@ -68,7 +68,8 @@ pub enum Halt {
 /// What a thread asks, and waits for.
 ///
 /// A number names a buffer, queue, node or thread, or in `CloseHost` the thread's own host access,
-/// each counted from 0. `MakeSub` has the parent, the linear id of the base and the range; `Spawn` has
+/// each counted from 0. A context's number is its place: 0 is the host, which is no context, 1 the
+/// default context, and each context that is made has the next number, up to 16. `MakeSub` has the parent, the linear id of the base and the range; `Spawn` has
 /// the body and its captures; `Finish` has main's value. `Barrier` has the source place and the line,
 /// `Collect` these and the call. Work items alone ask `Barrier` and `Collect`.
 #[derive(Clone, Debug, Drop)]

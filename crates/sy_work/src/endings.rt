@@ -1,7 +1,7 @@
 // What can go wrong in host code and kernels, and how a run ends.
 
 use crate::asks::Why;
-use sy_access::Cell;
+use sy_access::{Bytes, Cell};
 
 /// What undefined behaviour or limit a step met.
 #[derive(Clone, Copy, PartialEq, Eq, Debug)]
@@ -55,4 +55,14 @@ pub enum Ending {
     Stuck,
     OutputFull,
     HistoryFull,
+}
+
+/// How a run came out: how it ended, the threads of its steps in their order, the bytes printed, and
+/// how many copies it needs.
+#[derive(Debug, Drop)]
+pub struct End {
+    pub ending: Ending,
+    pub order: Vec<u32>,
+    pub output: Bytes,
+    pub copies: u64,
 }

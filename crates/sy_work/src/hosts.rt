@@ -31,6 +31,10 @@ pub trait Host: Sized {
     ghost stands: { Self → NextAsk → ℕ → List ℤ → List Answer → Type 0 };
 
     /// Runs to the next ask, for at most `slice` turns.
+    ///
+    /// An ask takes its own turn when it is answered and not in the call that reaches it, so with a
+    /// slice of 1 a thread whose first act is an ask gives that ask. It stops as `Sliced` once this
+    /// call has taken `slice` turns of loops and calls.
     fn next(&mut self, slice: u32) -> Result<HostStop, AllocError>
         requires slice { 1 ≤ slice }
         requires answered { pending self.old ≡ None }

@@ -11,7 +11,7 @@ mod runners;
 
 pub use asks::{Answer, Ask, Errc, Halt, NewBuffer, NewQueue, Submission, Why};
 pub use commands::{Collect, Command, Form, Inputs, Kernel, Outcome, RedOp, Reduction};
-pub use endings::{Cause, Ending, Fault, HostTrap, KernelError};
+pub use endings::{Cause, End, Ending, Fault, HostTrap, KernelError};
 pub use hosts::{Host, HostStop};
 pub use moves::{copied, filled, moves_are_read_back};
 pub use runners::{Gate, Named, NoGate, Runner};

@@ -55,6 +55,10 @@ impl Gate for NoGate {
 }
 
 /// The program and the turns of a run. Each call of what runs a program picks them.
+///
+/// The turns are how many each thread of host code may take, counted for each thread by itself: one
+/// for each start of a loop's body, each call of a function of the source, and each ask but `Finish`
+/// and `Halt`. The turns of work items are those of their `Kernel`.
 pub trait Named {
     ghost program: { Program };
 

@@ -1,4 +1,4 @@
-use Rattle.sy_answers.proofs.Runs.{step_fits}
+use Rattle.sy_answers.proofs.RunLemmas.{step_fits}
 use Rattle.sy_answers.proofs.laws.answers_fit.Goals as goal
 
 pub returns : goal.returns

@@ -1,4 +1,4 @@
-use Rattle.sy_answers.proofs.Runs.{all_told, all_started, all_counted}
+use Rattle.sy_answers.proofs.RunLemmas.{all_told, all_started, all_counted}
 use Rattle.sy_answers.proofs.laws.due_answers_reach_their_threads.Goals as goal
 
 pub returns-clause-told : goal.returns-clause-told

@@ -1,4 +1,4 @@
-use Rattle.sy_answers.proofs.Runs.{counted}
+use Rattle.sy_answers.proofs.RunLemmas.{counted}
 use Rattle.sy_answers.proofs.laws.threads_are_counted.Goals as goal
 
 pub returns : goal.returns

@@ -1,7 +1,7 @@
 use Rattle.std.proofs.Common.{◌≡◌, ◌∙◌, ap, arith, ◌<◌, length, vec_len, rules}
 use Rattle.std.specs.Prelude.{slice_set}
 use Rattle.sy_onecopy.specs.Settle.{with_stage}
-use Rattle.sy_board.proofs.Each.{changed_at-set, changed_at-past}
+use Rattle.sy_board.proofs.ListLemmas.{changed_at-set, changed_at-past}
 use Rattle.sy_board.proofs.board.set_stage.Goals as goal
 
 pub returns-then-k-len : goal.returns-then-k-len

@@ -3,7 +3,7 @@ use Rattle.std.specs.Prelude.{slice_set}
 use Rattle.std.proofs.lemmas.Option.{slice_get_past}
 use Rattle.sy_onecopy.specs.Step.{once_heard}
 use Rattle.sy_board.specs.Turns.{due_of}
-use Rattle.sy_board.proofs.Each.{changed_at-set, changed_at-past}
+use Rattle.sy_board.proofs.ListLemmas.{changed_at-set, changed_at-past}
 use Rattle.sy_board.proofs.board.take_at.Goals as goal
 
 pub returns-then-k-len-clause-answer : goal.returns-then-k-len-clause-answer

@@ -1,8 +1,8 @@
 use Rattle.std.proofs.Common.{◌≡◌, min, max, [], arith, sym, ap, ◌∙◌}
 use Rattle.std.proofs.lemmas.Grind.{common_steps}
 use Rattle.sy_copies.specs.Parts.{clear_in}
-use Rattle.sy_copies.specs.Each.{each_from}
-use Rattle.sy_copies.proofs.Renewal.{clear_none, clear_alone, clear_past, clear_cut}
+use Rattle.sy_needs.specs.Each.{each_from}
+use Rattle.sy_copies.proofs.RenewalLemmas.{clear_none, clear_alone, clear_past, clear_cut}
 use Rattle.sy_copies.proofs.cells.+clear_run.Goals as goal
 
 pub returns-then-from-to : goal.returns-then-from-to

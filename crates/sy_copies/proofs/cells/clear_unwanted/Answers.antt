@@ -6,8 +6,8 @@ use Rattle.sy_access.specs.declared.access.Need.{Need}
 use Rattle.sy_access.specs.Needs.{writes}
 use Rattle.sy_access.specs.declared.access.Mode.TheVariants.{Read}
 use Rattle.sy_copies.specs.Parts.{clear_at}
-use Rattle.sy_copies.specs.Each.{each_from}
-use Rattle.sy_copies.proofs.Renewal.{clear_skip, clear_more, clear_end}
+use Rattle.sy_needs.specs.Each.{each_from}
+use Rattle.sy_copies.proofs.RenewalLemmas.{clear_skip, clear_more, clear_end}
 use Rattle.sy_copies.proofs.cells.clear_unwanted.Goals as goal
 use Rattle.sy_copies.proofs.cells.clear_unwanted.Goals.{then-need-root+then-writes, else-need-root, else-need-root-via-then-need-root+else-writes, else-need-root-via-else-need-root}
 

@@ -1,5 +1,5 @@
 use Rattle.std.proofs.Common.{◌≡◌, drop}
-use Rattle.sy_copies.specs.Each.{each_from}
+use Rattle.sy_needs.specs.Each.{each_from}
 use Rattle.sy_copies.specs.Parts.{clear_at}
 use Rattle.sy_copies.proofs.cells.clear_unwanted.Given as goal
 

@@ -1,7 +1,7 @@
 use Rattle.std.proofs.Common.{◌≡◌, to_z, of_z, arith, ◌∙◌, sym}
 use Rattle.std.specs.Int.{w128}
 use Rattle.std.proofs.lemmas.Int.{to_z-of_z}
-use Rattle.sy_copies.proofs.Renewal.{put_one, put_none, put_local}
+use Rattle.sy_copies.proofs.RenewalLemmas.{put_one, put_none, put_local}
 use Rattle.sy_copies.proofs.cells.put.Goals as goal
 use Rattle.sy_copies.proofs.cells.put.Goals.{else-r-root-via-then-r-root+then-i-cells+else-is_written, else-r-root-via-then-r-root+else-i-cells, else-r-root-via-else-r-root}
 

@@ -7,8 +7,8 @@ use Rattle.sy_access.specs.declared.cells.Cell.{Cell}
 use Rattle.sy_access.specs.declared.cells.Cell.TheVariants as cell
 use Rattle.sy_access.specs.Logs.{differ}
 use Rattle.sy_copies.specs.Parts.{put_all_at}
-use Rattle.sy_copies.specs.Each.{each_from}
-use Rattle.sy_copies.proofs.Renewal.{put_more, put_end, differ_rest}
+use Rattle.sy_needs.specs.Each.{each_from}
+use Rattle.sy_copies.proofs.RenewalLemmas.{put_more, put_end, differ_rest}
 use Rattle.sy_copies.proofs.cells.put_log.Goals as goal
 
 pub loop-cell-preserved : goal.loop-cell-preserved

@@ -1,6 +1,6 @@
 use Rattle.std.proofs.Common.{◌≡◌, drop, IsTrue}
 use Rattle.sy_access.specs.Logs.{differ}
-use Rattle.sy_copies.specs.Each.{each_from}
+use Rattle.sy_needs.specs.Each.{each_from}
 use Rattle.sy_copies.specs.Parts.{put_all_at}
 use Rattle.sy_copies.proofs.cells.put_log.Given as goal
 

@@ -1,5 +1,5 @@
 use Rattle.std.proofs.Common.{◌∙◌}
-use Rattle.sy_copies.proofs.Renewal.{renewed_kept, renewed_zeros}
+use Rattle.sy_copies.proofs.RenewalLemmas.{renewed_kept, renewed_zeros}
 use Rattle.sy_copies.proofs.cells.renew.Goals as goal
 use Rattle.sy_copies.proofs.cells.renew.Goals.{then-from_zeros, else-from_zeros}
 

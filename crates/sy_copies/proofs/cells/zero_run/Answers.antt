@@ -1,5 +1,5 @@
 use Rattle.std.proofs.Common.{arith}
-use Rattle.sy_copies.proofs.Renewal.{zero_none, zero_more, zero_all}
+use Rattle.sy_copies.proofs.RenewalLemmas.{zero_none, zero_more, zero_all}
 use Rattle.sy_copies.proofs.cells.zero_run.Goals as goal
 
 pub loop-i-init : goal.loop-i-init

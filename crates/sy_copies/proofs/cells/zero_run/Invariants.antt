@@ -1,5 +1,5 @@
 use Rattle.std.proofs.Common.{◌≡◌, ◌≤◌, max}
-use Rattle.sy_copies.specs.Each.{each_from}
+use Rattle.sy_needs.specs.Each.{each_from}
 use Rattle.sy_copies.specs.Parts.{zero_in}
 use Rattle.sy_copies.proofs.cells.zero_run.Given as goal
 

@@ -3,10 +3,10 @@ use Rattle.std.proofs.lemmas.List.{take_more}
 use Rattle.sy_access.specs.declared.access.Need.{Need}
 use Rattle.sy_access.specs.declared.access.Mode.TheVariants.{Read}
 use Rattle.sy_access.specs.Needs.{writes}
-use Rattle.sy_copies.specs.Commands.{renews}
-use Rattle.sy_copies.specs.Each.{each_from}
+use Rattle.sy_needs.specs.Versions.{renews}
+use Rattle.sy_needs.specs.Each.{each_from}
 use Rattle.sy_copies.specs.Current.{publish_one}
-use Rattle.sy_copies.proofs.Roots.{roots_none, root_first, root_again}
+use Rattle.sy_copies.proofs.RootLemmas.{roots_none, root_first, root_again}
 use Rattle.sy_copies.proofs.copies.publish_all.Goals as goal
 use Rattle.sy_copies.proofs.copies.publish_all.Goals.{then-writes+then-not-renews, else-writes, else-writes-via-then-writes+else-not-renews, else-writes-via-else-writes}
 

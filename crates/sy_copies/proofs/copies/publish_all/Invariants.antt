@@ -1,5 +1,5 @@
 use Rattle.std.proofs.Common.{◌≡◌, take}
-use Rattle.sy_copies.specs.Each.{each_from}
+use Rattle.sy_needs.specs.Each.{each_from}
 use Rattle.sy_copies.specs.Current.{publish_at}
 use Rattle.sy_copies.proofs.copies.publish_all.Given as goal
 

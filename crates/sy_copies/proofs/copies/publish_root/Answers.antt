@@ -1,6 +1,6 @@
 use Rattle.std.proofs.Common.{option_map, ap, sym, ◌∙◌, arith}
 use Rattle.sy_copies.specs.Places.{published}
-use Rattle.sy_copies.proofs.Roots.{root_there, root_past}
+use Rattle.sy_copies.proofs.RootLemmas.{root_there, root_past}
 use Rattle.sy_copies.proofs.copies.publish_root.Goals as goal
 
 pub returns-then-number-buffers : goal.returns-then-number-buffers

@@ -2,7 +2,7 @@ use Rattle.std.proofs.Common.{◌≡◌, ◌+◌, ◌++◌, ℕ, false, List, ma
 use Rattle.std.proofs.lemmas.List.Edits.{map_over_more}
 use Rattle.sy_copies.specs.declared.slots.Slot.{Slot}
 use Rattle.sy_copies.specs.Slots.{slot_after, renewed_slot}
-use Rattle.sy_copies.proofs.Seats.{after_here, after_elsewhere}
+use Rattle.sy_copies.proofs.SlotLemmas.{after_here, after_elsewhere}
 use Rattle.sy_copies.proofs.slots.publish_all.Goals as goal
 use Rattle.sy_copies.proofs.slots.publish_all.Goals.{then-slot-place, else-slot-place}
 

@@ -1,6 +1,6 @@
 use Rattle.std.proofs.Common.{arith}
 use Rattle.sy_onecopy.specs.Outcome.{buffer_after}
-use Rattle.sy_entries.proofs.Each.{each_from-step}
+use Rattle.sy_entries.proofs.ListLemmas.{each_from-step}
 use Rattle.sy_entries.proofs.cells.buffers_after.Goals as goal
 
 pub loop-r-preserved : goal.loop-r-preserved

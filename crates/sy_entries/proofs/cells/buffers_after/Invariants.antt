@@ -1,5 +1,5 @@
 use Rattle.std.proofs.Common.{◌≡◌, take}
-use Rattle.sy_onecopy.specs.Each.{each_from}
+use Rattle.sy_needs.specs.Each.{each_from}
 use Rattle.sy_onecopy.specs.Outcome.{buffer_after}
 use Rattle.sy_entries.proofs.cells.buffers_after.Given as goal
 

@@ -1,6 +1,6 @@
 use Rattle.std.proofs.Common.{arith}
 use Rattle.sy_onecopy.specs.Step.{buffer_put}
-use Rattle.sy_entries.proofs.Each.{each_from-step}
+use Rattle.sy_entries.proofs.ListLemmas.{each_from-step}
 use Rattle.sy_entries.proofs.cells.buffers_put.Goals as goal
 
 pub loop-r-preserved : goal.loop-r-preserved

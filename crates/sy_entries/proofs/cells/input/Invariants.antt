@@ -1,6 +1,6 @@
 use Rattle.std.proofs.Common.{◌≡◌, take}
-use Rattle.sy_onecopy.specs.Each.{each_from}
-use Rattle.sy_onecopy.specs.Outcome.{at_start}
+use Rattle.sy_needs.specs.Each.{each_from}
+use Rattle.sy_needs.specs.Elements.{at_start}
 use Rattle.sy_entries.proofs.cells.input.Given as goal
 
 abbrev pub invariant-loop-i : goal.invariant-loop-i

@@ -1,7 +1,7 @@
 use Rattle.std.proofs.Common.{◌≡◌, ◌+◌, arith, pos}
 use Rattle.std.proofs.lemmas.Int.{to_z-of_z}
-use Rattle.sy_onecopy.specs.Outcome.{cell_after}
-use Rattle.sy_entries.proofs.Each.{each_from-take}
+use Rattle.sy_needs.specs.Elements.{cell_after}
+use Rattle.sy_entries.proofs.ListLemmas.{each_from-take}
 use Rattle.sy_entries.proofs.cells.values_after.Goals as goal
 
 pub loop-i-preserved : goal.loop-i-preserved

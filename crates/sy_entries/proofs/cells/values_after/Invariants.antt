@@ -1,6 +1,6 @@
 use Rattle.std.proofs.Common.{◌≡◌, take}
-use Rattle.sy_onecopy.specs.Each.{each_from}
-use Rattle.sy_onecopy.specs.Outcome.{cell_after}
+use Rattle.sy_needs.specs.Each.{each_from}
+use Rattle.sy_needs.specs.Elements.{cell_after}
 use Rattle.sy_entries.proofs.cells.values_after.Given as goal
 
 abbrev pub invariant-loop-i : goal.invariant-loop-i

@@ -1,5 +1,5 @@
 use Rattle.std.proofs.Common.{◌≡◌, take}
-use Rattle.sy_onecopy.specs.Each.{each_from}
+use Rattle.sy_needs.specs.Each.{each_from}
 use Rattle.sy_onecopy.specs.Step.{cell_put}
 use Rattle.sy_entries.proofs.cells.values_put.Given as goal
 

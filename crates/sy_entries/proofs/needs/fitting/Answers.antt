@@ -1,4 +1,4 @@
-use Rattle.sy_entries.proofs.Room.{live_fits}
+use Rattle.sy_entries.proofs.SizeLemmas.{live_fits}
 use Rattle.sy_entries.proofs.needs.fitting.Goals as goal
 
 pub live_elements-requires : goal.live_elements-requires

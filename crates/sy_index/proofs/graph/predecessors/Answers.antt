@@ -4,7 +4,7 @@ use Rattle.std.proofs.lemmas.List.{take_all}
 use Rattle.sy_access.specs.declared.access.Need.{Need}
 use Rattle.sy_index.specs.Listed.{listed, by_root}
 use Rattle.sy_index.specs.Slots.{holds_at, queue_numbers, root_numbers}
-use Rattle.sy_index.proofs.Kept.{gathered_at, candidates_is}
+use Rattle.sy_index.proofs.IndexLemmas.{gathered_at, candidates_is}
 use Rattle.sy_index.proofs.graph.predecessors.Goals as goal
 
 pub loop-need-preserved : goal.loop-need-preserved

@@ -1,7 +1,7 @@
 use Rattle.std.proofs.Common.{◌≡◌, ℕ, subst, Option}
 use Rattle.std.specs.Prelude.{OnSome}
 use Rattle.std.specs.List.{remove}
-use Rattle.sy_index.proofs.Counts.{has_removed}
+use Rattle.sy_index.proofs.CountLemmas.{has_removed}
 use Rattle.sy_index.proofs.lists.remove_from.Goals as goal
 
 pub returns-in-Ok : goal.returns-in-Ok

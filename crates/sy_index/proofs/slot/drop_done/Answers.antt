@@ -1,7 +1,7 @@
 use Rattle.std.proofs.Common.{◌≡◌, ◌∙◌, ap, sym, subst, ◌∷◌, ◌++◌, Option, Some, None, length, get_or, arith, refl}
 use Rattle.std.specs.Prelude.{option_to_list}
 use Rattle.sy_index.specs.declared.slot.Slot.{Slot}
-use Rattle.sy_index.proofs.Behind.{behind-zero, dropped}
+use Rattle.sy_index.proofs.DoneLemmas.{behind-zero, dropped}
 use Rattle.sy_index.proofs.slot.drop_done.Goals as goal
 
 pub loop-slots-init : goal.loop-slots-init

@@ -1,6 +1,6 @@
-use Rattle.sy_inorder.proofs.Running.{seq_holds}
-use Rattle.sy_inorder.proofs.Outcomes.{seq_outcomes}
-use Rattle.sy_inorder.proofs.Sees.{given_inputs, sees_first, sees_last}
+use Rattle.sy_inorder.proofs.StateLemmas.{seq_holds}
+use Rattle.sy_inorder.proofs.OutcomeLemmas.{seq_outcomes}
+use Rattle.sy_inorder.proofs.InputLemmas.{given_inputs, sees_first, sees_last}
 use Rattle.sy_inorder.proofs.laws.commands_run_as_if_in_order.Goals as goal
 
 pub returns-clause-buffers : goal.returns-clause-buffers

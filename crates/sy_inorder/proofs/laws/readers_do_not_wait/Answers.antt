@@ -1,5 +1,5 @@
-use Rattle.sy_inorder.proofs.Readers.{readers_before, not_held, keep_off}
-use Rattle.sy_inorder.proofs.Granted.{free_moves, reader_granted, opened_due}
+use Rattle.sy_inorder.proofs.ReaderLemmas.{readers_before, not_held, keep_off}
+use Rattle.sy_inorder.proofs.GrantLemmas.{free_moves, reader_granted, opened_due}
 use Rattle.sy_inorder.proofs.laws.readers_do_not_wait.Goals as goal
 
 pub returns-clause-pairs : goal.returns-clause-pairs

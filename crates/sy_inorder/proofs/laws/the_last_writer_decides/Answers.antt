@@ -1,4 +1,4 @@
-use Rattle.sy_inorder.proofs.Sees.{first_number, last_writer, what_it_wrote, what_was_put}
+use Rattle.sy_inorder.proofs.InputLemmas.{first_number, last_writer, what_it_wrote, what_was_put}
 use Rattle.sy_inorder.proofs.laws.the_last_writer_decides.Goals as goal
 
 pub returns-clause-first : goal.returns-clause-first

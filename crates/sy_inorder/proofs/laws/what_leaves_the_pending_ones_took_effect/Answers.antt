@@ -1,4 +1,4 @@
-use Rattle.sy_inorder.proofs.Ended.{took_effect}
+use Rattle.sy_inorder.proofs.EndLemmas.{took_effect}
 use Rattle.sy_inorder.proofs.laws.what_leaves_the_pending_ones_took_effect.Goals as goal
 
 pub returns : goal.returns

@@ -1,4 +1,4 @@
-use Rattle.sy_onecopy.proofs.Steps.{ended_is_final}
+use Rattle.sy_onecopy.proofs.StepLemmas.{ended_is_final}
 use Rattle.sy_onecopy.proofs.laws.an_ending_is_final.Goals as goal
 
 pub returns : goal.returns

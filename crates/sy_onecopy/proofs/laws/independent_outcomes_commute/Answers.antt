@@ -1,4 +1,4 @@
-use Rattle.sy_onecopy.proofs.Commute.{outcomes-swap, inputs-same}
+use Rattle.sy_onecopy.proofs.WriteLemmas.{outcomes-swap, inputs-same}
 use Rattle.sy_onecopy.proofs.laws.independent_outcomes_commute.Goals as goal
 
 pub returns-clause-buffers : goal.returns-clause-buffers

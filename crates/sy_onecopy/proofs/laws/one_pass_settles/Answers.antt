@@ -1,4 +1,4 @@
-use Rattle.sy_onecopy.proofs.Settled.{settled, settled_again}
+use Rattle.sy_onecopy.proofs.SettleLemmas.{settled, settled_again}
 use Rattle.sy_onecopy.proofs.laws.one_pass_settles.Goals as goal
 
 pub returns-clause-settled : goal.returns-clause-settled

@@ -1,5 +1,5 @@
 use Rattle.std.proofs.Common.{◌≡◌, ◌<◌, ◌≤◌, arith, length, sym, refl}
-use Rattle.sy_plain.proofs.Hearing.{hearing_none, hearing_step, can_still, due_still, due_there, heard_more, heard_all, told_past}
+use Rattle.sy_plain.proofs.AnswerLemmas.{hearing_none, hearing_step, can_still, due_still, due_there, heard_more, heard_all, told_past}
 use Rattle.sy_plain.proofs.hosts.hear_all.Goals as goal
 
 pub loop-k-init : goal.loop-k-init

@@ -2,8 +2,8 @@ use Rattle.std.proofs.Common.{◌≡◌}
 use Rattle.std.specs.Prelude.{slice_get}
 use Rattle.sy_onecopy.specs.Step.{once_heard}
 use Rattle.sy_board.specs.Turns.{due_of}
-use Rattle.sy_board.proofs.Giving.{first_changed}
-use Rattle.sy_plain.proofs.Hearing.{Hearing}
+use Rattle.sy_board.proofs.AnswerLemmas.{first_changed}
+use Rattle.sy_plain.proofs.AnswerLemmas.{Hearing}
 use Rattle.sy_plain.proofs.hosts.hear_all.Given as goal
 
 -- the first k threads have heard what is due to them

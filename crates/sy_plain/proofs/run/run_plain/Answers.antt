@@ -1,10 +1,9 @@
 use Rattle.std.proofs.Common.{◌≡◌, ◌∙◌, [], List, ℕ, Some, None, ap, sym, subst}
-use Rattle.sy_onecopy.specs.Sequence.{IsRun}
-use Rattle.sy_board.specs.Turns.{ending_at}
+use Rattle.sy_onecopy.specs.Sequence.{ending_at}
 use Rattle.sy_plain.specs.Hosts.{Seats}
 use Rattle.sy_plain.specs.Runs.{Reached, least}
-use Rattle.sy_plain.proofs.Endings.{reached_start}
-use Rattle.sy_plain.proofs.Running.{known_opening, sound_board, few, run_is, legal_first, can_step, more}
+use Rattle.sy_plain.proofs.EndingLemmas.{reached_start}
+use Rattle.sy_plain.proofs.RunLemmas.{known_opening, sound_board, few, run_is, legal_first, can_step, more}
 use Rattle.sy_plain.proofs.run.run_plain.Goals as goal
 
 pub loop-ending-init : goal.loop-ending-init
@@ -34,6 +33,7 @@ returns-in-Some g c = record {
   run = λ p bg.
       let r = c.loop-ending.invariant.reached p bg in
       run_is g.H.Host.pending g.H.Host.stands p c.loop-ending.board c.loop-ending.hosts.items c.loop-ending.asks.items c.loop-ending.order.items r c.first_thread-first.result c.as_slice.result.now c.in-Some.ending c.into_output.result c.in_ok-copies.copies c.as_slice.ensures.value c.first_thread-first.ensures c.in-Some.ensures c.into_output.ensures c.in_ok-copies.ensures;
+  serial = λ p bg. (c.loop-ending.invariant.reached p bg).serial;
 }
 
 pub step-requires-clause-can : goal.step-requires-clause-can

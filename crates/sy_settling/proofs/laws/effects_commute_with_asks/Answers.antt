@@ -1,5 +1,5 @@
-use Rattle.sy_settling.proofs.Follows.{apply-follows}
-use Rattle.sy_settling.proofs.Late.{commutes}
+use Rattle.sy_settling.proofs.OrderlyAskLemmas.{apply-follows}
+use Rattle.sy_settling.proofs.SettledAskLemmas.{commutes}
 use Rattle.sy_settling.proofs.laws.effects_commute_with_asks.Goals as goal
 
 pub returns-clause-free : goal.returns-clause-free

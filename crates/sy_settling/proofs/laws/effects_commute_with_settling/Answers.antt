@@ -1,6 +1,6 @@
 use Rattle.std.proofs.Common.{ap}
 use Rattle.sy_onecopy.specs.Step.{give_all}
-use Rattle.sy_settling.proofs.Late.{ask-settle, begun-settle}
+use Rattle.sy_settling.proofs.SettledAskLemmas.{ask-settle, begun-settle}
 use Rattle.sy_settling.proofs.laws.effects_commute_with_settling.Goals as goal
 
 pub returns-clause-begun : goal.returns-clause-begun

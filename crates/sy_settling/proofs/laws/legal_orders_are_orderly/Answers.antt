@@ -1,4 +1,4 @@
-use Rattle.sy_settling.proofs.Orders.{legal_orderly, legal_may_ask, legal_settle}
+use Rattle.sy_settling.proofs.LegalOrderLemmas.{legal_orderly, legal_may_ask, legal_settle}
 use Rattle.sy_settling.proofs.laws.legal_orders_are_orderly.Goals as goal
 
 pub returns-clause-orderly : goal.returns-clause-orderly

@@ -1,4 +1,4 @@
-use Rattle.sy_settling.proofs.Settling.{effect-settle}
+use Rattle.sy_settling.proofs.SettleLemmas.{effect-settle}
 use Rattle.sy_settling.proofs.laws.one_effect_then_settling.Goals as goal
 
 pub returns : goal.returns

@@ -1,8 +1,8 @@
-use Rattle.sy_settling.proofs.Kept.{orderly-effect}
-use Rattle.sy_settling.proofs.Settling.{orderly-settle}
-use Rattle.sy_settling.proofs.Late.{may_ask-effect}
-use Rattle.sy_settling.proofs.Orders.{orderly-opening, orderly-begun, orderly-apply, orderly-give, orderly-heard}
-use Rattle.sy_settling.proofs.Lagging.{orderly-told}
+use Rattle.sy_settling.proofs.OrderlyEffectLemmas.{orderly-effect}
+use Rattle.sy_settling.proofs.SettleLemmas.{orderly-settle}
+use Rattle.sy_settling.proofs.SettledAskLemmas.{may_ask-effect}
+use Rattle.sy_settling.proofs.LegalOrderLemmas.{orderly-opening, orderly-begun, orderly-apply, orderly-give, orderly-heard}
+use Rattle.sy_settling.proofs.DeferredLemmas.{orderly-told}
 use Rattle.sy_settling.proofs.laws.order_is_kept.Goals as goal
 
 pub returns-clause-opening : goal.returns-clause-opening

@@ -1,4 +1,4 @@
-use Rattle.sy_settling.proofs.Alike.{alike-settle, alike-ask, same-answer}
+use Rattle.sy_settling.proofs.AlikeLemmas.{alike-settle, alike-ask, same-answer}
 use Rattle.sy_settling.proofs.laws.settling_keeps.Goals as goal
 
 pub returns-clause-settled : goal.returns-clause-settled

@@ -1,4 +1,4 @@
-use Rattle.sy_sound.proofs.Few.{copies_few}
+use Rattle.sy_sound.proofs.CountLemmas.{copies_few}
 use Rattle.sy_sound.proofs.laws.copies_are_few.Goals as goal
 
 pub returns : goal.returns

@@ -1,4 +1,4 @@
-use Rattle.sy_sound.proofs.Fit.{node_fits}
+use Rattle.sy_sound.proofs.InputLemmas.{node_fits}
 use Rattle.sy_sound.proofs.laws.inputs_fit.Goals as goal
 
 pub returns : goal.returns

@@ -1,4 +1,4 @@
-use Rattle.sy_sound.proofs.Few.{node_below, nodes_few}
+use Rattle.sy_sound.proofs.CountLemmas.{node_below, nodes_few}
 use Rattle.sy_sound.proofs.laws.nodes_are_counted.Goals as goal
 
 pub returns-clause-below : goal.returns-clause-below

@@ -1,4 +1,4 @@
-use Rattle.sy_sound.proofs.Keeping.{opening-sound, asked-sound, settle_upto-sound, turn-sound}
+use Rattle.sy_sound.proofs.SoundLemmas.{opening-sound, asked-sound, settle_upto-sound, turn-sound}
 use Rattle.sy_sound.proofs.laws.turns_keep_boards_sound.Goals as goal
 
 pub returns-clause-opens : goal.returns-clause-opens

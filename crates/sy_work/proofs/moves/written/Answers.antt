@@ -1,6 +1,6 @@
 use Rattle.std.proofs.Common.{arith, pos}
 use Rattle.std.proofs.lemmas.Int.{to_z-of_z}
-use Rattle.sy_work.proofs.Writing.{writes_from-more, differ-same}
+use Rattle.sy_work.proofs.WriteLemmas.{writes_from-more, differ-same}
 use Rattle.sy_work.proofs.moves.written.Goals as goal
 
 pub loop-k-preserved : goal.loop-k-preserved

@@ -1,5 +1,5 @@
 use Rattle.std.proofs.Common.{◌≡◌, rules}
-use Rattle.sy_board.proofs.Room.{copies_fit}
+use Rattle.sy_board.proofs.SizeLemmas.{copies_fit}
 use Rattle.sy_board.proofs.board.OneCopy.copies.Goals as goal
 
 pub copies-requires-clause-fits : goal.copies-requires-clause-fits

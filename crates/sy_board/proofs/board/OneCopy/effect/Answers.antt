@@ -6,7 +6,7 @@ use Rattle.sy_onecopy.specs.declared.Stage.TheVariants.{Granted, Done}
 use Rattle.sy_onecopy.specs.State.{Board}
 use Rattle.sy_onecopy.specs.Outcome.{inputs, values_at}
 use Rattle.sy_onecopy.specs.Settle.{reply, to_stage, first_of}
-use Rattle.sy_board.proofs.Effects.{fit_here, effect_node, effect_access, effect_end}
+use Rattle.sy_board.proofs.EffectLemmas.{fit_here, effect_node, effect_access, effect_end}
 use Rattle.sy_board.proofs.board.OneCopy.effect.Goals as goal
 
 pub run-requires-clause-fit : goal.run-requires-clause-fit

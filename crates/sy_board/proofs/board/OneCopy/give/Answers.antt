@@ -1,5 +1,5 @@
 use Rattle.std.proofs.Common.{◌∙◌, ◌<◌, length, rules}
-use Rattle.sy_board.proofs.Giving.{give_due, give_not, give_past}
+use Rattle.sy_board.proofs.AnswerLemmas.{give_due, give_not, give_past}
 use Rattle.sy_board.proofs.board.OneCopy.give.Goals as goal
 
 pub returns-then-k-len : goal.returns-then-k-len

@@ -1,6 +1,6 @@
 use Rattle.std.proofs.Common.{◌≡◌, ◌∙◌, ap, arith, length}
 use Rattle.sy_board.specs.Turns.{give_upto}
-use Rattle.sy_board.proofs.Giving.{give_upto-all}
+use Rattle.sy_board.proofs.AnswerLemmas.{give_upto-all}
 use Rattle.sy_board.proofs.board.OneCopy.give_all.Goals as goal
 
 pub returns : goal.returns

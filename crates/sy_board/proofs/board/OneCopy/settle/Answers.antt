@@ -1,9 +1,9 @@
 use Rattle.std.proofs.Common.{sym, subst}
 use Rattle.sy_onecopy.specs.State.{Board}
 use Rattle.sy_sound.specs.Sound.{IsSound}
-use Rattle.sy_sound.proofs.Keeping.{settle_upto-sound}
-use Rattle.sy_board.specs.Known.{AllKnown}
-use Rattle.sy_board.proofs.Knowing.{known_upto}
+use Rattle.sy_sound.proofs.SoundLemmas.{settle_upto-sound}
+use Rattle.sy_sound.specs.Known.{AllKnown}
+use Rattle.sy_sound.proofs.KnownLemmas.{known_upto}
 use Rattle.sy_board.proofs.board.OneCopy.settle.Goals as goal
 
 pub settle_at-requires-clause-sound : goal.settle_at-requires-clause-sound

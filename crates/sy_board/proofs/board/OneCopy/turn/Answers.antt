@@ -2,10 +2,10 @@ use Rattle.std.proofs.Common.{◌≡◌, ◌∙◌, ap, sym, subst}
 use Rattle.sy_onecopy.specs.State.{Board}
 use Rattle.sy_onecopy.specs.Step.{apply, begun}
 use Rattle.sy_sound.specs.Sound.{IsSound}
-use Rattle.sy_sound.proofs.Keeping.{asked-sound}
-use Rattle.sy_board.specs.Known.{AllKnown}
-use Rattle.sy_board.proofs.Knowing.{known_asked}
-use Rattle.sy_board.proofs.Room.{begun_room}
+use Rattle.sy_sound.proofs.SoundLemmas.{asked-sound}
+use Rattle.sy_sound.specs.Known.{AllKnown}
+use Rattle.sy_sound.proofs.KnownLemmas.{known_asked}
+use Rattle.sy_board.proofs.SizeLemmas.{begun_room}
 use Rattle.sy_board.proofs.board.OneCopy.turn.Goals as goal
 
 pub apply-requires : goal.apply-requires

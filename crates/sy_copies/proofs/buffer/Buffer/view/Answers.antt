@@ -1,6 +1,6 @@
 use Rattle.std.proofs.Common.{◌≡◌, refl, sym, ◌∙◌}
 use Rattle.sy_copies.specs.Places.{copy_in}
-use Rattle.sy_copies.proofs.Seats.{shown}
+use Rattle.sy_copies.proofs.SlotLemmas.{shown}
 use Rattle.sy_copies.proofs.buffer.Buffer.view.Goals as goal
 
 pub returns-in-Some : goal.returns-in-Some

@@ -2,8 +2,8 @@ use Rattle.std.proofs.Common.{◌<◌, ◌≤◌, List, Option, length, set, sym
 use Rattle.sy_copies.specs.declared.buffer.Buffer.{Buffer}
 use Rattle.sy_copies.specs.Current.{Agree}
 use Rattle.sy_copies.specs.Calls.{Drops}
-use Rattle.sy_copies.proofs.Entries.{drops, drops_past}
-use Rattle.sy_copies.proofs.Agreement.{agree_drops}
+use Rattle.sy_copies.proofs.CallLemmas.{drops, drops_past}
+use Rattle.sy_copies.proofs.AgreementLemmas.{agree_drops}
 use Rattle.sy_copies.proofs.copies.Copies.drop_buffer.Goals as goal
 
 pub invariant_of-self : goal.invariant_of-self

@@ -3,8 +3,8 @@ use Rattle.std.proofs.lemmas.Result.{on_ok_weaker}
 use Rattle.sy_copies.specs.declared.buffer.Buffer.{Buffer}
 use Rattle.sy_copies.specs.Current.{len_at, has_room, buffer_at, room_of, Sound, Agree}
 use Rattle.sy_copies.specs.Calls.{Installs}
-use Rattle.sy_copies.proofs.Entries.{with_length, installs, kept_set, read_there}
-use Rattle.sy_copies.proofs.Agreement.{agree_installs, either_way, ok_unless}
+use Rattle.sy_copies.proofs.CallLemmas.{with_length, installs, kept_set, read_there}
+use Rattle.sy_copies.proofs.AgreementLemmas.{agree_installs, either_way, ok_unless}
 use Rattle.sy_copies.proofs.copies.Copies.install.Goals as goal
 
 pub index_mut-requires : goal.index_mut-requires

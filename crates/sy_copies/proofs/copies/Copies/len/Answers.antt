@@ -1,6 +1,6 @@
 use Rattle.std.proofs.Common.{◌<◌, ◌≤◌, length, sym, ap, ◌∙◌, arith}
 use Rattle.sy_copies.specs.Current.{len_at, len_of}
-use Rattle.sy_copies.proofs.Entries.{see_past, see_read}
+use Rattle.sy_copies.proofs.CallLemmas.{see_past, see_read}
 use Rattle.sy_copies.proofs.copies.Copies.len.Goals as goal
 
 pub returns-then-number-len : goal.returns-then-number-len

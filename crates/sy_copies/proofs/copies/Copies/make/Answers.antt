@@ -3,8 +3,8 @@ use Rattle.sy_copies.specs.declared.buffer.Buffer.{Buffer}
 use Rattle.sy_copies.specs.Places.{first}
 use Rattle.sy_copies.specs.Current.{Sound, Agree}
 use Rattle.sy_copies.specs.Calls.{Makes}
-use Rattle.sy_copies.proofs.Entries.{makes, fitting}
-use Rattle.sy_copies.proofs.Agreement.{agree_makes}
+use Rattle.sy_copies.proofs.CallLemmas.{makes, fitting}
+use Rattle.sy_copies.proofs.AgreementLemmas.{agree_makes}
 use Rattle.sy_copies.proofs.copies.Copies.make.Goals as goal
 
 pub invariant_of-self-2 : goal.invariant_of-self-2

@@ -2,10 +2,10 @@ use Rattle.std.proofs.Common.{◌≡◌, ◌+◌, ◌++◌, ◌∷◌, [], ℕ, 
 use Rattle.std.proofs.lemmas.List.{take_more}
 use Rattle.sy_access.specs.declared.access.Need.{Need}
 use Rattle.sy_access.specs.declared.access.Mode.TheVariants.{Read}
-use Rattle.sy_copies.specs.Commands.{renews}
+use Rattle.sy_needs.specs.Versions.{renews}
 use Rattle.sy_copies.specs.Calls.{MayRenew}
-use Rattle.sy_copies.proofs.Refused.{writer_renews}
-use Rattle.sy_copies.proofs.Roots.{renews_more, renews_none}
+use Rattle.sy_copies.proofs.ConditionLemmas.{writer_renews}
+use Rattle.sy_copies.proofs.RootLemmas.{renews_more, renews_none}
 use Rattle.sy_copies.proofs.copies.Copies.may_publish.Goals as goal
 use Rattle.sy_copies.proofs.copies.Copies.may_publish.Goals.{else-writes-via-then-writes+else-not-may_renew, else-writes-via-else-writes}
 

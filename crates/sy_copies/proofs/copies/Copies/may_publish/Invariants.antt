@@ -1,5 +1,5 @@
 use Rattle.std.proofs.Common.{ℕ, IsTrue, take}
-use Rattle.sy_copies.specs.Commands.{renews}
+use Rattle.sy_needs.specs.Versions.{renews}
 use Rattle.sy_copies.specs.Calls.{MayRenew}
 use Rattle.sy_copies.proofs.copies.Copies.may_publish.Given as goal
 

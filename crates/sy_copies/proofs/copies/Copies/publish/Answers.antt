@@ -1,11 +1,11 @@
 use Rattle.std.proofs.Common.{◌≡◌, ◌++◌, List, Option, length, take, drop, sym, ◌∙◌, subst, arith}
 use Rattle.std.proofs.lemmas.Grind.{common_steps}
 use Rattle.sy_copies.specs.declared.buffer.Buffer.{Buffer}
-use Rattle.sy_copies.specs.Each.{each_from}
+use Rattle.sy_needs.specs.Each.{each_from}
 use Rattle.sy_copies.specs.Current.{Sound, Agree, publish_at}
 use Rattle.sy_copies.specs.Calls.{MayPublish, Publishes}
-use Rattle.sy_copies.proofs.Entries.{publishes}
-use Rattle.sy_copies.proofs.Agreement.{agree_publishes}
+use Rattle.sy_copies.proofs.CallLemmas.{publishes}
+use Rattle.sy_copies.proofs.AgreementLemmas.{agree_publishes}
 use Rattle.sy_copies.proofs.copies.Copies.publish.Goals as goal
 
 pub invariant_of-self : goal.invariant_of-self

@@ -3,8 +3,8 @@ use Rattle.std.proofs.lemmas.Result.{on_ok_weaker}
 use Rattle.sy_copies.specs.declared.buffer.Buffer.{Buffer}
 use Rattle.sy_copies.specs.Current.{len_at, Sound, Agree}
 use Rattle.sy_copies.specs.Calls.{Reserves}
-use Rattle.sy_copies.proofs.Entries.{within, reserves, kept_set}
-use Rattle.sy_copies.proofs.Agreement.{agree_same, either_way}
+use Rattle.sy_copies.proofs.CallLemmas.{within, reserves, kept_set}
+use Rattle.sy_copies.proofs.AgreementLemmas.{agree_same, either_way}
 use Rattle.sy_copies.proofs.copies.Copies.reserve.Goals as goal
 
 pub index_mut-requires : goal.index_mut-requires

@@ -1,7 +1,7 @@
 use Rattle.std.proofs.Common.{◌<◌, ◌≤◌, length, sym, ap, ◌∙◌, arith}
 use Rattle.sy_copies.specs.Current.{copy_at, copy_of}
-use Rattle.sy_copies.proofs.Entries.{see_past, see_read}
-use Rattle.sy_copies.proofs.Seats.{same_shown}
+use Rattle.sy_copies.proofs.CallLemmas.{see_past, see_read}
+use Rattle.sy_copies.proofs.SlotLemmas.{same_shown}
 use Rattle.sy_copies.proofs.copies.Copies.view.Goals as goal
 
 pub returns-then-number-len : goal.returns-then-number-len

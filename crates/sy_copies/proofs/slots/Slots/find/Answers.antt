@@ -1,7 +1,7 @@
 use Rattle.std.proofs.Common.{◌≡◌, List, ◌∙◌, subst}
 use Rattle.sy_copies.specs.declared.slots.Slot.{Slot}
 use Rattle.sy_copies.specs.Slots.{IsSlotOf}
-use Rattle.sy_copies.proofs.Seats.{no_slot_more, slot_written}
+use Rattle.sy_copies.proofs.SlotLemmas.{no_slot_more, slot_written}
 use Rattle.sy_copies.proofs.slots.Slots.find.Goals as goal
 
 pub returns-then-slot-place : goal.returns-then-slot-place

@@ -1,7 +1,7 @@
 use Rattle.std.proofs.Common.{◌≡◌, List, Some, ◌∙◌, subst}
 use Rattle.sy_copies.specs.declared.slots.Slot.{Slot}
 use Rattle.sy_copies.specs.Slots.{slot_at}
-use Rattle.sy_copies.proofs.Seats.{no_slot_more, slot_read}
+use Rattle.sy_copies.proofs.SlotLemmas.{no_slot_more, slot_read}
 use Rattle.sy_copies.proofs.slots.Slots.get.Goals as goal
 
 pub returns-then-slot-place : goal.returns-then-slot-place

@@ -1,6 +1,6 @@
 use Rattle.std.proofs.Common.{◌++◌, ◌∷◌, [], List, ap, ◌∙◌}
 use Rattle.sy_copies.specs.declared.slots.Slot.{Slot}
-use Rattle.sy_copies.proofs.Seats.{slot_added}
+use Rattle.sy_copies.proofs.SlotLemmas.{slot_added}
 use Rattle.sy_copies.proofs.slots.Slots.put.Goals as goal
 use Rattle.sy_copies.proofs.slots.Slots.put.Goals.{in-Ok, in-Err}
 

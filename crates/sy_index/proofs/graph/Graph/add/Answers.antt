@@ -4,7 +4,7 @@ use Rattle.sy_graph.specs.declared.node.Node.{Node}
 use Rattle.sy_index.specs.declared.slot.Slot.{Slot}
 use Rattle.sy_index.specs.Listed.{listed, by_root}
 use Rattle.sy_index.specs.Slots.{IsIndex, nodes_of}
-use Rattle.sy_index.proofs.Kept.{lists_kept, Added, added, index_shed_at, length-nodes_of, nodes_of-linked, nodes_of-pushed}
+use Rattle.sy_index.proofs.IndexLemmas.{lists_kept, Added, added, index_shed_at, length-nodes_of, nodes_of-linked, nodes_of-pushed}
 use Rattle.sy_index.proofs.graph.Graph.add.Goals as goal
 use Rattle.sy_index.proofs.graph.Graph.add.Goals.{in-Some, in_default-node}
 

@@ -6,7 +6,7 @@ use Rattle.sy_graph.specs.declared.node.Node.{Node}
 use Rattle.sy_index.specs.declared.slot.Slot.{Slot}
 use Rattle.sy_index.specs.Listed.{listed, by_root}
 use Rattle.sy_index.specs.Slots.{IsIndex, told, nodes_of}
-use Rattle.sy_index.proofs.Kept.{ready_slot, index_done, nodes_of-told, nodes_of-taken}
+use Rattle.sy_index.proofs.IndexLemmas.{ready_slot, index_done, nodes_of-told, nodes_of-taken}
 use Rattle.sy_index.proofs.graph.Graph.done.Goals as goal
 
 pub take-requires : goal.take-requires

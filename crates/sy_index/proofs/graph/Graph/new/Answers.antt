@@ -1,6 +1,6 @@
 use Rattle.std.proofs.Common.{ap, ◌∙◌}
 use Rattle.sy_index.specs.Slots.{nodes_of}
-use Rattle.sy_index.proofs.Kept.{nodes_of-nil}
+use Rattle.sy_index.proofs.IndexLemmas.{nodes_of-nil}
 use Rattle.sy_index.proofs.graph.Graph.new.Goals as goal
 
 pub returns : goal.returns

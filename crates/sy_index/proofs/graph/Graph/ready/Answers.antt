@@ -2,7 +2,7 @@
 use Rattle.std.proofs.Common.{ap, ◌∙◌, List, Option}
 use Rattle.sy_graph.specs.Before.{is_ready}
 use Rattle.sy_graph.specs.declared.node.Node.{Node}
-use Rattle.sy_index.proofs.Kept.{idle_is}
+use Rattle.sy_index.proofs.IndexLemmas.{idle_is}
 use Rattle.sy_index.proofs.graph.Graph.ready.Goals as goal
 
 pub returns : goal.returns

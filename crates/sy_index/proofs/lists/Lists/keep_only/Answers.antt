@@ -5,7 +5,7 @@ use Rattle.std.proofs.lemmas.Grind.{common_steps}
 use Rattle.std.proofs.lemmas.Fn.{filter_same}
 use Rattle.std.proofs.lemmas.Bool.{eqb-false}
 use Rattle.sy_index.specs.Listed.{listed}
-use Rattle.sy_index.proofs.Counts.{filtered_at}
+use Rattle.sy_index.proofs.CountLemmas.{filtered_at}
 use Rattle.sy_index.proofs.lists.Lists.keep_only.Goals as goal
 
 pub returns-in-Some : goal.returns-in-Some

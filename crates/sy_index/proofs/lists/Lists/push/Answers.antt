@@ -2,7 +2,7 @@ use Rattle.std.proofs.Common.{◌≡◌, [], ◌∷◌, ◌++◌, arith}
 use Rattle.std.specs.Prelude.{if◌then◌else◌, ◌==◌}
 use Rattle.std.proofs.lemmas.Grind.{common_steps}
 use Rattle.sy_index.specs.Listed.{listed}
-use Rattle.sy_index.proofs.Counts.{has_pushed, has_kept, kept_at}
+use Rattle.sy_index.proofs.CountLemmas.{has_pushed, has_kept, kept_at}
 use Rattle.sy_index.proofs.lists.Lists.push.Goals as goal
 
 pub returns-in_ok-push_back-in-Some-clause-named : goal.returns-in_ok-push_back-in-Some-clause-named

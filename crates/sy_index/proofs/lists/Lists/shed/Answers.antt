@@ -6,7 +6,7 @@ use Rattle.std.proofs.lemmas.Fn.{filter_same}
 use Rattle.std.proofs.lemmas.Bool.{eqb-false, or_parts, not-false}
 use Rattle.sy_index.specs.Listed.{listed}
 use Rattle.sy_index.specs.Slots.{superseded_at}
-use Rattle.sy_index.proofs.Counts.{filtered_at}
+use Rattle.sy_index.proofs.CountLemmas.{filtered_at}
 use Rattle.sy_index.proofs.lists.Lists.shed.Goals as goal
 
 pub returns-in-Some : goal.returns-in-Some

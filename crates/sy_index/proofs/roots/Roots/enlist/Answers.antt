@@ -2,7 +2,7 @@ use Rattle.std.proofs.Common.{◌<◌, length, ap, arith, inl, inr}
 use Rattle.std.proofs.lemmas.Option.{slice_get_within}
 use Rattle.std.proofs.lemmas.Bool.{cases_lt}
 use Rattle.sy_index.specs.Listed.{by_root}
-use Rattle.sy_index.proofs.Kept.{has_here}
+use Rattle.sy_index.proofs.IndexLemmas.{has_here}
 use Rattle.sy_index.proofs.roots.Roots.enlist.Goals as goal
 
 pub loop-need-preserved : goal.loop-need-preserved

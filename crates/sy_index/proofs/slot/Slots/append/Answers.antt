@@ -2,8 +2,8 @@ use Rattle.std.proofs.Common.{ap, ◌∙◌, List, Option, length, arith}
 use Rattle.std.specs.Prelude.{reverse}
 use Rattle.sy_index.specs.declared.slot.Slot.{Slot}
 use Rattle.sy_index.specs.Slots.{unlinked}
-use Rattle.sy_index.proofs.Changed.{unlinked-linked}
-use Rattle.sy_index.proofs.Index.{length-linked}
+use Rattle.sy_index.proofs.SlotLemmas.{unlinked-linked}
+use Rattle.sy_index.proofs.EdgeLemmas.{length-linked}
 use Rattle.sy_index.proofs.slot.Slots.append.Goals as goal
 
 pub returns-in-Err-clause-err : goal.returns-in-Err-clause-err

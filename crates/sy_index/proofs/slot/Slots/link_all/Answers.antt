@@ -2,7 +2,7 @@ use Rattle.std.proofs.Common.{◌<◌, length, get_or, arith, ap, ◌∙◌, Lis
 use Rattle.std.proofs.lemmas.List.{take_more}
 use Rattle.sy_index.specs.declared.slot.Slot.{Slot}
 use Rattle.sy_index.specs.Slots.{changed, with_successor}
-use Rattle.sy_index.proofs.Changed.{linked_more}
+use Rattle.sy_index.proofs.SlotLemmas.{linked_more}
 use Rattle.sy_index.proofs.slot.Slots.link_all.Goals as goal
 
 pub loop-i-preserved : goal.loop-i-preserved

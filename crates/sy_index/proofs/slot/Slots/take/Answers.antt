@@ -1,7 +1,7 @@
 use Rattle.std.proofs.Common.{◌≡◌, ◌∙◌, ◌+◌, ◌-◌, ap, sym, length, set, List, Option, None, arith, length-set}
 use Rattle.sy_index.specs.declared.slot.Slot.{Slot}
 use Rattle.sy_index.specs.Slots.{behind}
-use Rattle.sy_index.proofs.Behind.{length-behind, set-behind, behind-behind}
+use Rattle.sy_index.proofs.DoneLemmas.{length-behind, set-behind, behind-behind}
 use Rattle.sy_index.proofs.slot.Slots.take.Goals as goal
 
 pub invariant_of-self : goal.invariant_of-self

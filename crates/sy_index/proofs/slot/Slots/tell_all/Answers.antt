@@ -1,6 +1,6 @@
 use Rattle.std.proofs.Common.{◌<◌, length, arith}
 use Rattle.std.proofs.lemmas.List.{take_more}
-use Rattle.sy_index.proofs.Changed.{told_more}
+use Rattle.sy_index.proofs.SlotLemmas.{told_more}
 use Rattle.sy_index.proofs.slot.Slots.tell_all.Goals as goal
 
 pub loop-m-preserved : goal.loop-m-preserved

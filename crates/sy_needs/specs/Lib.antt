@@ -1,0 +1,4 @@
+pub mod Each
+pub mod Elements
+pub mod Versions
+pub mod Order
