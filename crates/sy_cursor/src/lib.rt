@@ -5,6 +5,7 @@
 
 mod cursor;
 mod parts;
+mod steps;
 mod tables;
 #[cfg(test)]
 mod tests;
@@ -15,6 +16,7 @@ pub use parts::{
     integral, maybe_parameters, maybe_template_argument, object_by, object_type, one_word, opened,
     qualified, sees_type, type_specifier,
 };
+pub use steps::{beside, maybe_boxed, pair, triple};
 pub use tables::{
     assignment_of, function_of, level, object_of, operator_of, step_of, tag_of, unary_of,
 };

@@ -1,3 +1,3 @@
 mod Identity
+mod Members
 mod Options
-mod Subscript

@@ -5,14 +5,15 @@ ghost use Rattle.sy_cursor.specs.Reads.{Reads};
 ghost use Rattle.sy_exprs.specs.Nests.{Nests};
 ghost use Rattle.sy_reading.specs.Exprs as exprs;
 ghost use Rattle.sy_reading.specs.Input as input;
+ghost use Rattle.sy_reading.specs.Parts as parts;
 ghost use Rattle.sy_reading.specs.Reading.{read_expr, read_stmt};
 
 use crate::grammar::Grammar;
 use sqlite_items::Items;
-use sy_cursor::{Stop, Tall, Tokens};
+use sy_cursor::{Stop, Tall, Tokens, beside, closing_text};
 use sy_lex::Row;
 use sy_note::Spot;
-use sy_tree::{Argument, Expr, Stmt};
+use sy_tree::{Argument, Brackets, Expr, Stmt};
 
 impl<
     E: Fn(&mut Tokens<'_>, usize, u8) -> Result<Tall<Expr>, Stop>,
@@ -56,8 +57,8 @@ impl<
         ensures { Reads (exprs.braced (read_expr self.now.depth) (read_stmt self.now.depth) tokens.old.rest.now) result tokens.new.rest.now }
     {
         let spot = tokens.expect(Row::Mark, b"{")?;
-        let (items, height) = self.expr_list(tokens)?;
-        let close = tokens.expect(Row::Mark, b"}")?;
+        let list = self.expr_list(tokens)?;
+        let ((items, height), close) = beside(list, tokens.expect(Row::Mark, b"}"))?;
         Ok((Argument::Braced(spot, items, close), height))
     }
 
@@ -111,6 +112,18 @@ impl<
         self.argument_list(tokens)
     }
 
+    /// Arguments or none, in brackets of that kind that are open.
+    pub(crate) fn arguments_within(
+        &self,
+        tokens: &mut Tokens<'_>,
+        brackets: Brackets,
+    ) -> Result<Tall<Items<Argument>>, Stop>
+        requires { Nests self.now.depth (E.pre self.now.expr) (E.post self.now.expr) (S.pre self.now.stmt) (S.post self.now.stmt) }
+        ensures { Reads (exprs.arguments (read_expr self.now.depth) (read_stmt self.now.depth) (parts.closing_text brackets) tokens.old.rest.now) result tokens.new.rest.now }
+    {
+        self.arguments(tokens, closing_text(brackets))
+    }
+
     #[tactic(auto, unfolding(sy_reading::specs::Exprs::parenthesis))]
     pub(crate) fn parenthesis(&self, tokens: &mut Tokens<'_>) -> Result<(Tall<Expr>, Spot), Stop>
         requires { Nests self.now.depth (E.pre self.now.expr) (E.post self.now.expr) (S.pre self.now.stmt) (S.post self.now.stmt) }
@@ -118,7 +131,6 @@ impl<
     {
         tokens.expect(Row::Mark, b"(")?;
         let inner = self.sub_expr(tokens, 1)?;
-        let close = tokens.expect(Row::Mark, b")")?;
-        Ok((inner, close))
+        beside(inner, tokens.expect(Row::Mark, b")"))
     }
 }

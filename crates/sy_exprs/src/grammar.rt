@@ -2,13 +2,21 @@
 
 ghost use Rattle.sy_cursor.specs.Reads.{Reads};
 ghost use Rattle.sy_exprs.specs.Nests.{Nests};
+ghost use Rattle.sy_reading.specs.Input as input;
 ghost use Rattle.sy_reading.specs.Reading.{read_expr, read_stmt};
 
-use sy_cursor::{Stop, Tall, Tokens};
+use sy_cursor::{Stop, Tall, Tokens, grown};
 use sy_tree::{Expr, Stmt};
 
 /// A chain has a level for each of its operators, and so takes no more turns.
 pub(crate) const TURNS: usize = 65;
+
+/// A node over children of that height, unless it is too high.
+pub(crate) fn node(tokens: &Tokens<'_>, tree: Expr, height: u32) -> Result<Tall<Expr>, Stop>
+    ensures { Reads (input.grown tree height tokens.now.rest.now) result tokens.now.rest.now }
+{
+    grown(tokens, tree, height)
+}
 
 /// The rules of the grammar, over the parsers of what stands below.
 #[derive(Clone, Copy)]

@@ -8,7 +8,7 @@ ghost use Rattle.sy_reading.specs.Reading.{read_expr, read_stmt};
 
 use crate::grammar::Grammar;
 use sqlite_items::Items;
-use sy_cursor::{Stop, Tall, Tokens, captures, grown, maybe_parameters};
+use sy_cursor::{Stop, Tall, Tokens, beside, captures, grown, maybe_parameters};
 use sy_lex::Row;
 use sy_tree::{Block, Expr, Lambda, Stmt};
 
@@ -40,8 +40,8 @@ impl<
         ensures { Reads (exprs.one_block (read_expr self.now.depth) (read_stmt self.now.depth) tokens.old.rest.now) result tokens.new.rest.now }
     {
         let spot = tokens.expect(Row::Mark, b"{")?;
-        let (statements, height) = self.statements(tokens)?;
-        let close = tokens.expect(Row::Mark, b"}")?;
+        let list = self.statements(tokens)?;
+        let ((statements, height), close) = beside(list, tokens.expect(Row::Mark, b"}"))?;
         let block = Block {
             spot,
             statements,
@@ -57,10 +57,15 @@ impl<
         ensures { Reads (exprs.one_lambda (read_expr self.now.depth) (read_stmt self.now.depth) tokens.old.rest.now) result tokens.new.rest.now }
     {
         let spot = tokens.expect(Row::Mark, b"[")?;
-        let (captures, _none) = captures(tokens)?;
-        tokens.expect(Row::Mark, b"]")?;
-        let parameters = maybe_parameters(tokens)?;
-        let (body, height) = self.one_block(tokens)?;
+        let captures = captures(tokens)?;
+        let (captures, _close) = beside(captures, tokens.expect(Row::Mark, b"]"))?;
+        let (captures, parameters) = beside(captures, maybe_parameters(tokens))?;
+        let ((captures, parameters), body) = beside(
+            (captures, parameters),
+            self.one_block(tokens),
+        )?;
+        let (captures, _none) = captures;
+        let (body, height) = body;
         let lambda = Lambda {
             spot,
             captures,

@@ -5,7 +5,6 @@
 mod arguments;
 mod grammar;
 mod lambda;
-mod nodes;
 mod operators;
 mod postfix;
 mod primary;

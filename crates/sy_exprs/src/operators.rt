@@ -6,11 +6,11 @@ ghost use Rattle.sy_exprs.specs.Nests.{Nests};
 ghost use Rattle.sy_reading.specs.Exprs as exprs;
 ghost use Rattle.sy_reading.specs.Reading.{read_expr, read_stmt};
 
-use crate::grammar::{Grammar, TURNS};
-use crate::nodes;
+use crate::grammar::{Grammar, TURNS, node};
 use sqlite_items::Boxed;
 use sy_cursor::{
-    Stop, Tall, Tokens, grown, integral, level, operator_of, sees_type, step_of, unary_of,
+    Stop, Tall, Tokens, beside, integral, level, operator_of, pair, sees_type, step_of, triple,
+    unary_of,
 };
 use sy_lex::Row;
 use sy_num::UnOp;
@@ -73,7 +73,7 @@ impl<
         tokens.expect(Row::Mark, b")")?;
         let (value, height) = self.sub_expr(tokens, 12)?;
         let tree = Expr::Cast(spot, target, Boxed::new(tokens.alloc, value)?);
-        grown(tokens, tree, height)
+        node(tokens, tree, height)
     }
 
     #[tactic(auto, unfolding(sy_reading::specs::Exprs::prefix_step))]
@@ -84,7 +84,7 @@ impl<
         let spot = tokens.advance()?;
         let (operand, height) = self.sub_expr(tokens, 12)?;
         let tree = Expr::Prefix(spot, operator, Boxed::new(tokens.alloc, operand)?);
-        grown(tokens, tree, height)
+        node(tokens, tree, height)
     }
 
     #[tactic(auto, unfolding(sy_reading::specs::Exprs::unary))]
@@ -95,7 +95,7 @@ impl<
         let spot = tokens.advance()?;
         let (operand, height) = self.sub_expr(tokens, 12)?;
         let tree = Expr::Unary(spot, operator, Boxed::new(tokens.alloc, operand)?);
-        grown(tokens, tree, height)
+        node(tokens, tree, height)
     }
 
     #[tactic(auto, unfolding(sy_reading::specs::Exprs::cast_or_postfix))]
@@ -135,11 +135,13 @@ impl<
         requires { Nests self.now.depth (E.pre self.now.expr) (E.post self.now.expr) (S.pre self.now.stmt) (S.post self.now.stmt) }
         ensures { Reads (exprs.binary (read_expr self.now.depth) (read_stmt self.now.depth) operator left tokens.old.rest.now) result tokens.new.rest.now }
     {
-        let spot = tokens.advance()?;
-        let (right, tall) = self.sub_expr(tokens, level(operator) + 1)?;
+        let (left, spot) = beside(left, tokens.advance())?;
+        let (left, right) = beside(left, self.sub_expr(tokens, level(operator) + 1))?;
         let (first, height) = left;
-        let tree = nodes::binary(tokens.alloc, first, spot, operator, right)?;
-        grown(tokens, tree, height.max(tall))
+        let (second, tall) = right;
+        let (first, second) = pair(tokens.alloc, first, second)?;
+        let tree = Expr::Binary(first, spot, operator, second);
+        node(tokens, tree, height.max(tall))
     }
 
     #[tactic(auto, unfolding(sy_reading::specs::Exprs::conditional))]
@@ -147,13 +149,16 @@ impl<
         requires { Nests self.now.depth (E.pre self.now.expr) (E.post self.now.expr) (S.pre self.now.stmt) (S.post self.now.stmt) }
         ensures { Reads (exprs.conditional (read_expr self.now.depth) (read_stmt self.now.depth) tested tokens.old.rest.now) result tokens.new.rest.now }
     {
-        let spot = tokens.expect(Row::Mark, b"?")?;
-        let (yes, yes_height) = self.sub_expr(tokens, 1)?;
-        tokens.expect(Row::Mark, b":")?;
-        let (no, no_height) = self.sub_expr(tokens, 1)?;
+        let (tested, spot) = beside(tested, tokens.expect(Row::Mark, b"?"))?;
+        let (tested, yes) = beside(tested, self.sub_expr(tokens, 1))?;
+        let ((tested, yes), _colon) = beside((tested, yes), tokens.expect(Row::Mark, b":"))?;
+        let ((tested, yes), no) = beside((tested, yes), self.sub_expr(tokens, 1))?;
         let (test, height) = tested;
-        let tree = nodes::conditional(tokens.alloc, test, spot, yes, no)?;
-        grown(tokens, tree, height.max(yes_height.max(no_height)))
+        let (yes, yes_height) = yes;
+        let (no, no_height) = no;
+        let (test, (yes, no)) = triple(tokens.alloc, test, yes, no)?;
+        let tree = Expr::Conditional(test, spot, yes, no);
+        node(tokens, tree, height.max(yes_height.max(no_height)))
     }
 
     #[tactic(auto, unfolding(sy_reading::specs::Exprs::operation))]

@@ -5,11 +5,11 @@ ghost use Rattle.sy_exprs.specs.Nests.{Nests};
 ghost use Rattle.sy_reading.specs.Exprs as exprs;
 ghost use Rattle.sy_reading.specs.Reading.{read_expr, read_stmt};
 
-use crate::grammar::Grammar;
+use crate::grammar::{Grammar, node};
 use sqlite_items::Boxed;
 use sy_cursor::{
-    Stop, Tall, Tokens, closed, closing_text, empty_brackets, function_of, grown, integral,
-    object_by, object_of, one_word, opened, qualified, tag_of,
+    Stop, Tall, Tokens, beside, closed, empty_brackets, function_of, integral, object_by,
+    object_of, one_word, opened, pair, qualified, tag_of,
 };
 use sy_lex::Row;
 use sy_tree::{Expr, FunctionObject, IntegerType, Lexeme, LibraryFunction, Qualified, Stmt};
@@ -24,10 +24,10 @@ impl<
         ensures { Reads (exprs.parenthesized (read_expr self.now.depth) (read_stmt self.now.depth) tokens.old.rest.now) result tokens.new.rest.now }
     {
         let spot = tokens.expect(Row::Mark, b"(")?;
-        let (inner, height) = self.sub_expr(tokens, 1)?;
-        let close = tokens.expect(Row::Mark, b")")?;
+        let inner = self.sub_expr(tokens, 1)?;
+        let ((inner, height), close) = beside(inner, tokens.expect(Row::Mark, b")"))?;
         let tree = Expr::Parenthesized(spot, Boxed::new(tokens.alloc, inner)?, close);
-        grown(tokens, tree, height)
+        node(tokens, tree, height)
     }
 
     #[tactic(auto, unfolding(sy_reading::specs::Exprs::called))]
@@ -35,10 +35,12 @@ impl<
         requires { Nests self.now.depth (E.pre self.now.expr) (E.post self.now.expr) (S.pre self.now.stmt) (S.post self.now.stmt) }
         ensures { Reads (exprs.called (read_expr self.now.depth) (read_stmt self.now.depth) function tokens.old.rest.now) result tokens.new.rest.now }
     {
-        tokens.expect(Row::Mark, b"(")?;
-        let (items, height) = self.maybe_exprs(tokens, b")")?;
-        let close = tokens.expect(Row::Mark, b")")?;
-        grown(tokens, Expr::Call(function, items, close), height)
+        let (function, _open) = beside(function, tokens.expect(Row::Mark, b"("))?;
+        let (function, items) = beside(function, self.maybe_exprs(tokens, b")"))?;
+        let ((function, items), close) = beside((function, items), tokens.expect(Row::Mark, b")"))?;
+        let (items, function) = beside(items, Boxed::new(tokens.alloc, function))?;
+        let (items, height) = items;
+        node(tokens, Expr::Call(function, items, close), height)
     }
 
     #[tactic(auto, unfolding(sy_reading::specs::Exprs::named_primary))]
@@ -50,7 +52,7 @@ impl<
         if tokens.sees(Row::Mark, b"(") {
             self.called(tokens, name)
         } else {
-            grown(tokens, Expr::Name(name), 0)
+            node(tokens, Expr::Name(name), 0)
         }
     }
 
@@ -65,7 +67,7 @@ impl<
         tokens.expect(Row::Mark, b">")?;
         let ((inner, height), close) = self.parenthesis(tokens)?;
         let tree = Expr::StaticCast(spot, target, Boxed::new(tokens.alloc, inner)?, close);
-        grown(tokens, tree, height)
+        node(tokens, tree, height)
     }
 
     #[tactic(auto, unfolding(sy_reading::specs::Exprs::functional_cast))]
@@ -76,7 +78,7 @@ impl<
         let target = one_word(tokens)?;
         let ((inner, height), close) = self.parenthesis(tokens)?;
         let tree = Expr::FunctionalCast(target, Boxed::new(tokens.alloc, inner)?, close);
-        grown(tokens, tree, height)
+        node(tokens, tree, height)
     }
 
     #[tactic(auto, unfolding(sy_reading::specs::Exprs::reserved_primary))]
@@ -86,10 +88,10 @@ impl<
     {
         if tokens.sees(Row::Reserved, b"true") {
             let spot = tokens.expect(Row::Reserved, b"true")?;
-            grown(tokens, Expr::Boolean(spot, true), 0)
+            node(tokens, Expr::Boolean(spot, true), 0)
         } else if tokens.sees(Row::Reserved, b"false") {
             let spot = tokens.expect(Row::Reserved, b"false")?;
-            grown(tokens, Expr::Boolean(spot, false), 0)
+            node(tokens, Expr::Boolean(spot, false), 0)
         } else if tokens.sees(Row::Reserved, b"static_cast") {
             self.static_cast(tokens)
         } else {
@@ -108,11 +110,13 @@ impl<
         ensures { Reads (exprs.construct (read_expr self.now.depth) (read_stmt self.now.depth) name text.now tokens.old.rest.now) result tokens.new.rest.now }
     {
         let object = object_by(tokens, name, text)?;
-        let (brackets, open) = opened(tokens)?;
-        let (items, height) = self.arguments(tokens, closing_text(brackets))?;
-        let close = closed(tokens, brackets)?;
+        let (object, (brackets, open)) = beside(object, opened(tokens))?;
+        let (object, items) = beside(object, self.arguments_within(tokens, brackets))?;
+        let ((object, items), close) = beside((object, items), closed(tokens, brackets))?;
+        let (items, height) = items;
+        let (object, items) = pair(tokens.alloc, object, items)?;
         let tree = Expr::Construct(object, brackets, open, items, close);
-        grown(tokens, tree, height)
+        node(tokens, tree, height)
     }
 
     #[tactic(auto, unfolding(sy_reading::specs::Exprs::in_order))]
@@ -124,7 +128,7 @@ impl<
         tokens.expect(Row::Mark, b"::")?;
         tokens.expect(Row::Ident, b"in_order")?;
         let (brackets, close) = empty_brackets(tokens)?;
-        grown(tokens, Expr::InOrder(name, brackets, close), 0)
+        node(tokens, Expr::InOrder(name, brackets, close), 0)
     }
 
     #[tactic(auto, unfolding(sy_reading::specs::Exprs::initialize_to_identity))]
@@ -140,7 +144,7 @@ impl<
         tokens.expect(Row::Mark, b"::")?;
         tokens.expect(Row::Ident, b"initialize_to_identity")?;
         let (brackets, close) = empty_brackets(tokens)?;
-        grown(tokens, Expr::InitializeToIdentity(name, brackets, close), 0)
+        node(tokens, Expr::InitializeToIdentity(name, brackets, close), 0)
     }
 
     #[tactic(auto, unfolding(sy_reading::specs::Exprs::property))]
@@ -163,7 +167,7 @@ impl<
     {
         let ((inner, height), close) = self.parenthesis(tokens)?;
         let tree = Expr::GroupBarrier(name, Boxed::new(tokens.alloc, inner)?, close);
-        grown(tokens, tree, height)
+        node(tokens, tree, height)
     }
 
     #[tactic(auto, unfolding(sy_reading::specs::Exprs::error_code))]
@@ -173,7 +177,8 @@ impl<
     {
         tokens.expect(Row::Mark, b"::")?;
         let error = tokens.lexed(Row::Ident)?;
-        grown(tokens, Expr::ErrorCode(name, error), 0)
+        let error = Boxed::new(tokens.alloc, error)?;
+        node(tokens, Expr::ErrorCode(name, error), 0)
     }
 
     #[tactic(auto, unfolding(sy_reading::specs::Exprs::maybe_integral))]
@@ -204,7 +209,7 @@ impl<
         tokens.expect(Row::Mark, b">")?;
         let (brackets, close) = empty_brackets(tokens)?;
         let tree = Expr::FunctionObject(name, function, kind, brackets, close);
-        grown(tokens, tree, 0)
+        node(tokens, tree, 0)
     }
 
     #[tactic(auto, unfolding(sy_reading::specs::Exprs::library_call))]
@@ -218,10 +223,10 @@ impl<
         ensures { Reads (exprs.library_call (read_expr self.now.depth) (read_stmt self.now.depth) name function tokens.old.rest.now) result tokens.new.rest.now }
     {
         tokens.expect(Row::Mark, b"(")?;
-        let (items, height) = self.arguments(tokens, b")")?;
-        let close = tokens.expect(Row::Mark, b")")?;
+        let items = self.arguments(tokens, b")")?;
+        let ((items, height), close) = beside(items, tokens.expect(Row::Mark, b")"))?;
         let tree = Expr::LibraryCall(name, function, items, close);
-        grown(tokens, tree, height)
+        node(tokens, tree, height)
     }
 
     /// A name of the library that is no access tag, no function object and no function with a value.
@@ -257,7 +262,7 @@ impl<
         ensures { Reads (exprs.library_by (read_expr self.now.depth) (read_stmt self.now.depth) name text.now tokens.old.rest.now) result tokens.new.rest.now }
     {
         if let Some(tag) = tag_of(text) {
-            return grown(tokens, Expr::AccessTag(name, tag), 0);
+            return node(tokens, Expr::AccessTag(name, tag), 0);
         }
         if let Some(function) = object_of(text) {
             return self.function_object(tokens, name, function);
@@ -284,10 +289,10 @@ impl<
     {
         if tokens.sees_row(Row::Int) {
             let literal = tokens.lexed(Row::Int)?;
-            grown(tokens, Expr::Integer(literal), 0)
+            node(tokens, Expr::Integer(literal), 0)
         } else if tokens.sees_row(Row::Char) {
             let literal = tokens.lexed(Row::Char)?;
-            grown(tokens, Expr::Character(literal), 0)
+            node(tokens, Expr::Character(literal), 0)
         } else if tokens.sees_row(Row::Reserved) {
             self.reserved_primary(tokens)
         } else if tokens.sees(Row::Mark, b"(") {

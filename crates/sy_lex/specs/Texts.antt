@@ -6,4 +6,4 @@ use Rattle.sy_lex.specs.declared.Kept.TheVariants.{Vector, Inside}
 -- the bytes, wherever they lie
 abbrev pub kept_bytes : Kept → List ℕ
 kept_bytes (Vector v) = v.items
-kept_bytes (Inside v) = v.items
+kept_bytes (Inside bytes) = bytes

@@ -5,13 +5,14 @@ ghost use Rattle.std.specs.Prelude.{◌≡◌, ◌<◌, ◌≤◌, ◌+◌, ◌^
 ghost use Rattle.sy_lex.specs.Front.{step, after, token_at};
 ghost use Rattle.sy_lex.specs.Tokens.{HasTokens, IsOnly, HasNoTokens, IsStuck};
 
+mod few;
 mod reserved;
 mod scan;
 #[cfg(test)]
 mod tests;
 
+use few::Few;
 use scan::{Front, look};
-use smallvec::SmallVec;
 use std::alloc::{AllocError, Global};
 use std::marker::Model;
 use sy_note::{Code, Diagnostic, FrontStop, Spot};
@@ -28,14 +29,11 @@ pub enum Row {
     Mark,
 }
 
-/// Texts of up to so many bytes lie inside their token.
-const SHORT: usize = 16;
-
 /// Where the bytes of a text lie: in a vector, or inside where they are few.
 #[derive(Debug, Drop)]
 enum Kept {
     Vector(Vec<u8>),
-    Inside(SmallVec<u8, SHORT>),
+    Inside(Few),
 }
 
 /// The bytes of a token, as the source has them. Those of a short one take no allocation.
@@ -66,9 +64,11 @@ impl Text {
     pub fn copied(alloc: Global, bytes: &[u8]) -> Result<Text, AllocError>
         ensures { IfOk result (λ text. text ≡ bytes.now) }
     {
-        Ok(Text {
-            kept: Kept::Inside(SmallVec::from_slice(alloc, bytes)?),
-        })
+        let kept = match Few::of(bytes) {
+            Some(few) => Kept::Inside(few),
+            None => Kept::Vector(Vec::from_slice(alloc, bytes)?),
+        };
+        Ok(Text { kept })
     }
 
     pub fn items(&self) -> &[u8]

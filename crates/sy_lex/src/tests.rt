@@ -311,8 +311,8 @@ fn texts(rt: HostRuntime) -> Result<(), Fail> {
     assert_eq!(rt; text.items(), b"ab".as_slice());
     for bytes in [
         b"".as_slice(),
-        b"0123456789abcdef".as_slice(),
-        b"0123456789abcdefg".as_slice(),
+        b"0123456789abcdefghijklmnopqrst".as_slice(),
+        b"0123456789abcdefghijklmnopqrstu".as_slice(),
     ] {
         assert_eq!(rt; Text::copied(rt.alloc(), bytes)?.items(), bytes);
     }

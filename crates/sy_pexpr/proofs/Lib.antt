@@ -1,4 +1,3 @@
-pub mod Exits
 pub mod Names
 pub mod Refusals
 pub mod RunLaws

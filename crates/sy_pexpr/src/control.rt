@@ -6,9 +6,9 @@ ghost use Rattle.sy_cursor.specs.Reads.{Reads};
 ghost use Rattle.sy_exprs.specs.Nests.{Nests};
 ghost use Rattle.sy_reading.specs.Stmts as stmts;
 
-use crate::statements::Statements;
+use crate::statements::{Statements, node};
 use sqlite_items::Boxed;
-use sy_cursor::{Stop, Tall, Tokens, grown, type_specifier};
+use sy_cursor::{Stop, Tall, Tokens, beside, type_specifier};
 use sy_lex::{Row, Token};
 use sy_note::Spot;
 use sy_tree::{Expr, Lexeme, Stmt, TypeSpecifier};
@@ -24,7 +24,7 @@ fn range_header(tokens: &mut Tokens<'_>) -> Result<RangeHeader, Stop>
     let element = type_specifier(tokens)?;
     let by_reference = tokens.eat(Row::Mark, b"&");
     let name = tokens.lexed(Row::Ident)?;
-    tokens.expect(Row::Mark, b":")?;
+    let (name, _colon) = beside(name, tokens.expect(Row::Mark, b":"))?;
     Ok(((fixed, element), (by_reference, name)))
 }
 
@@ -59,7 +59,7 @@ impl<
     {
         tokens.expect(Row::Mark, b"(")?;
         let found = self.below.sub_expr(tokens, 1)?;
-        tokens.expect(Row::Mark, b")")?;
+        let (found, _close) = beside(found, tokens.expect(Row::Mark, b")"))?;
         Ok(found)
     }
 
@@ -74,15 +74,18 @@ impl<
         requires { Nests self.now.below.depth (E.pre self.now.below.expr) (E.post self.now.below.expr) (S.pre self.now.below.stmt) (S.post self.now.below.stmt) }
         ensures { Reads (stmts.otherwise (read_expr self.now.below.depth) (read_stmt self.now.below.depth) spot test yes tokens.old.rest.now) result tokens.new.rest.now }
     {
-        let (test, test_height) = test;
-        let (yes, yes_height) = yes;
         if tokens.eat(Row::Reserved, b"else") {
-            let (no, no_height) = self.body(tokens)?;
+            let ((test, yes), no) = beside((test, yes), self.body(tokens))?;
+            let (test, test_height) = test;
+            let (yes, yes_height) = yes;
+            let (no, no_height) = no;
             let tree = Stmt::If(spot, test, yes, Some(no));
-            grown(tokens, tree, test_height.max(yes_height.max(no_height)))
+            node(tokens, tree, test_height.max(yes_height.max(no_height)))
         } else {
+            let (test, test_height) = test;
+            let (yes, yes_height) = yes;
             let tree = Stmt::If(spot, test, yes, None);
-            grown(tokens, tree, test_height.max(yes_height))
+            node(tokens, tree, test_height.max(yes_height))
         }
     }
 
@@ -93,7 +96,7 @@ impl<
     {
         let spot = tokens.expect(Row::Reserved, b"if")?;
         let test = self.condition(tokens)?;
-        let yes = self.body(tokens)?;
+        let (test, yes) = beside(test, self.body(tokens))?;
         self.otherwise(tokens, spot, test, yes)
     }
 
@@ -103,9 +106,11 @@ impl<
         ensures { Reads (stmts.while_loop (read_expr self.now.below.depth) (read_stmt self.now.below.depth) tokens.old.rest.now) result tokens.new.rest.now }
     {
         let spot = tokens.expect(Row::Reserved, b"while")?;
-        let (test, height) = self.condition(tokens)?;
-        let (body, tall) = self.body(tokens)?;
-        grown(tokens, Stmt::While(spot, test, body), height.max(tall))
+        let test = self.condition(tokens)?;
+        let (test, body) = beside(test, self.body(tokens))?;
+        let (test, height) = test;
+        let (body, tall) = body;
+        node(tokens, Stmt::While(spot, test, body), height.max(tall))
     }
 
     #[tactic(auto, unfolding(sy_reading::specs::Stmts::do_loop))]
@@ -114,11 +119,13 @@ impl<
         ensures { Reads (stmts.do_loop (read_expr self.now.below.depth) (read_stmt self.now.below.depth) tokens.old.rest.now) result tokens.new.rest.now }
     {
         let spot = tokens.expect(Row::Reserved, b"do")?;
-        let (body, tall) = self.body(tokens)?;
-        tokens.expect(Row::Reserved, b"while")?;
-        let (test, height) = self.condition(tokens)?;
-        let end = tokens.expect(Row::Mark, b";")?;
-        grown(tokens, Stmt::Do(spot, body, test, end), tall.max(height))
+        let body = self.body(tokens)?;
+        let (body, _while) = beside(body, tokens.expect(Row::Reserved, b"while"))?;
+        let (body, test) = beside(body, self.condition(tokens))?;
+        let ((body, test), end) = beside((body, test), tokens.expect(Row::Mark, b";"))?;
+        let (body, tall) = body;
+        let (test, height) = test;
+        node(tokens, Stmt::Do(spot, body, test, end), tall.max(height))
     }
 
     #[tactic(auto, unfolding(sy_reading::specs::Stmts::range_for))]
@@ -132,11 +139,12 @@ impl<
         ensures { Reads (stmts.range_for (read_expr self.now.below.depth) (read_stmt self.now.below.depth) spot header tokens.old.rest.now) result tokens.new.rest.now }
     {
         let ((fixed, element), (by_reference, name)) = header;
-        let range = tokens.lexed(Row::Ident)?;
-        tokens.expect(Row::Mark, b")")?;
-        let (body, height) = self.body(tokens)?;
+        let (name, range) = beside(name, tokens.lexed(Row::Ident))?;
+        let ((name, range), _close) = beside((name, range), tokens.expect(Row::Mark, b")"))?;
+        let ((name, range), body) = beside((name, range), self.body(tokens))?;
+        let (body, height) = body;
         let tree = Stmt::RangeFor(spot, fixed, element, by_reference, name, range, body);
-        grown(tokens, tree, height)
+        node(tokens, tree, height)
     }
 
     #[tactic(auto, unfolding(sy_reading::specs::Stmts::plain_for))]
@@ -144,17 +152,24 @@ impl<
         requires { Nests self.now.below.depth (E.pre self.now.below.expr) (E.post self.now.below.expr) (S.pre self.now.below.stmt) (S.post self.now.below.stmt) }
         ensures { Reads (stmts.plain_for (read_expr self.now.below.depth) (read_stmt self.now.below.depth) spot tokens.old.rest.now) result tokens.new.rest.now }
     {
-        let (init, init_height) = self.init(tokens)?;
-        let (test, test_height) = self.maybe_expr(tokens)?;
-        tokens.expect(Row::Mark, b";")?;
-        let (step, step_height) = self.maybe_full(tokens)?;
-        tokens.expect(Row::Mark, b")")?;
-        let (body, body_height) = self.body(tokens)?;
+        let init = self.init(tokens)?;
+        let (init, test) = beside(init, self.maybe_expr(tokens))?;
+        let ((init, test), _semicolon) = beside((init, test), tokens.expect(Row::Mark, b";"))?;
+        let ((init, test), step) = beside((init, test), self.maybe_full(tokens))?;
+        let ((init, test, step), _close) = beside(
+            (init, test, step),
+            tokens.expect(Row::Mark, b")"),
+        )?;
+        let ((init, test, step), body) = beside((init, test, step), self.body(tokens))?;
+        let (init, init_height) = init;
+        let (test, test_height) = test;
+        let (step, step_height) = step;
+        let (body, body_height) = body;
         let tree = Stmt::For(spot, init, test, step, body);
         let height = init_height
             .max(test_height)
             .max(step_height.max(body_height));
-        grown(tokens, tree, height)
+        node(tokens, tree, height)
     }
 
     /// The same where the header of a range-for was tried first. If neither fits, the cursor stands where the one that
@@ -208,7 +223,7 @@ impl<
         tokens.within(b"sycl", b"exception")?;
         tokens.expect(Row::Mark, b"&")?;
         let name = tokens.lexed(Row::Ident)?;
-        tokens.expect(Row::Mark, b")")?;
+        let (name, _close) = beside(name, tokens.expect(Row::Mark, b")"))?;
         Ok(name)
     }
 
@@ -218,13 +233,12 @@ impl<
         ensures { Reads (stmts.try_block (read_expr self.now.below.depth) (read_stmt self.now.below.depth) tokens.old.rest.now) result tokens.new.rest.now }
     {
         let spot = tokens.expect(Row::Reserved, b"try")?;
-        let (block, height) = self.below.one_block(tokens)?;
-        let name = self.handler(tokens)?;
-        let (caught, tall) = self.below.one_block(tokens)?;
-        grown(
-            tokens,
-            Stmt::Try(spot, block, name, caught),
-            height.max(tall),
-        )
+        let block = self.below.one_block(tokens)?;
+        let (block, name) = beside(block, self.handler(tokens))?;
+        let ((block, name), caught) = beside((block, name), self.below.one_block(tokens))?;
+        let (block, height) = block;
+        let (caught, tall) = caught;
+        let tree = Stmt::Try(spot, block, name, caught);
+        node(tokens, tree, height.max(tall))
     }
 }

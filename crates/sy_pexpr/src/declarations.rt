@@ -11,7 +11,7 @@ ghost use Rattle.sy_pexpr.specs.Rests as rests;
 use crate::statements::Statements;
 use sqlite_items::Items;
 use sy_cursor::{
-    Stop, Tall, Tokens, closed, const_specifier, integral, object_type, opened, qualified,
+    Stop, Tall, Tokens, beside, closed, const_specifier, integral, object_type, opened, qualified,
     type_specifier,
 };
 use sy_lex::Row;
@@ -32,13 +32,12 @@ impl<
         requires { Nests self.now.below.depth (E.pre self.now.below.expr) (E.post self.now.below.expr) (S.pre self.now.below.stmt) (S.post self.now.below.stmt) }
         ensures { Reads (stmts.bracketed_declarator (read_expr self.now.below.depth) (read_stmt self.now.below.depth) name tokens.old.rest.now) result tokens.new.rest.now }
     {
-        let (brackets, open) = opened(tokens)?;
-        let (value, height) = self.below.sub_expr(tokens, 1)?;
-        let close = closed(tokens, brackets)?;
-        Ok((
-            Declarator::Bracketed(name, brackets, open, value, close),
-            height,
-        ))
+        let (name, (brackets, open)) = beside(name, opened(tokens))?;
+        let (name, value) = beside(name, self.below.sub_expr(tokens, 1))?;
+        let ((name, value), close) = beside((name, value), closed(tokens, brackets))?;
+        let (value, height) = value;
+        let declarator = Declarator::Bracketed(name, brackets, open, value, close);
+        Ok((declarator, height))
     }
 
     #[tactic(auto, unfolding(sy_reading::specs::Stmts::equal_declarator))]
@@ -50,8 +49,8 @@ impl<
         requires { Nests self.now.below.depth (E.pre self.now.below.expr) (E.post self.now.below.expr) (S.pre self.now.below.stmt) (S.post self.now.below.stmt) }
         ensures { Reads (stmts.equal_declarator (read_expr self.now.below.depth) (read_stmt self.now.below.depth) name tokens.old.rest.now) result tokens.new.rest.now }
     {
-        let spot = tokens.expect(Row::Mark, b"=")?;
-        let (value, height) = self.below.sub_expr(tokens, 1)?;
+        let (name, spot) = beside(name, tokens.expect(Row::Mark, b"="))?;
+        let (name, (value, height)) = beside(name, self.below.sub_expr(tokens, 1))?;
         Ok((Declarator::Equal(name, spot, value), height))
     }
 
@@ -94,8 +93,8 @@ impl<
     {
         let specifier = const_specifier(tokens)?;
         let of = type_specifier(tokens)?;
-        let (items, height) = self.declarator_list(tokens)?;
-        let end = tokens.expect(Row::Mark, b";")?;
+        let items = self.declarator_list(tokens)?;
+        let ((items, height), end) = beside(items, tokens.expect(Row::Mark, b";"))?;
         Ok((Declaration::Integers(specifier, of, items, end), height))
     }
 
@@ -121,8 +120,8 @@ impl<
         ensures { Reads (stmts.direct (read_expr self.now.below.depth) (read_stmt self.now.below.depth) tokens.old.rest.now) result tokens.new.rest.now }
     {
         let (brackets, open) = opened(tokens)?;
-        let (items, height) = self.direct_arguments(tokens, brackets)?;
-        let close = closed(tokens, brackets)?;
+        let items = self.direct_arguments(tokens, brackets)?;
+        let ((items, height), close) = beside(items, closed(tokens, brackets))?;
         Ok((Initializer::Direct(brackets, open, items, close), height))
     }
 
@@ -152,9 +151,13 @@ impl<
         ensures { Reads (stmts.object_declaration (read_expr self.now.below.depth) (read_stmt self.now.below.depth) tokens.old.rest.now) result tokens.new.rest.now }
     {
         let object = object_type(tokens)?;
-        let name = tokens.lexed(Row::Ident)?;
-        let (initializer, height) = self.maybe_initializer(tokens)?;
-        let end = tokens.expect(Row::Mark, b";")?;
+        let (object, name) = beside(object, tokens.lexed(Row::Ident))?;
+        let ((object, name), initializer) = beside((object, name), self.maybe_initializer(tokens))?;
+        let ((object, name, initializer), end) = beside(
+            (object, name, initializer),
+            tokens.expect(Row::Mark, b";"),
+        )?;
+        let (initializer, height) = initializer;
         Ok((Declaration::Object(object, name, initializer, end), height))
     }
 
@@ -170,12 +173,14 @@ impl<
         let element = integral(tokens)?;
         tokens.expect(Row::Mark, b">")?;
         let name = tokens.lexed(Row::Ident)?;
-        let (initializer, height) = self.maybe_initializer(tokens)?;
-        let end = tokens.expect(Row::Mark, b";")?;
-        Ok((
-            Declaration::Vector(vector, element, name, initializer, end),
-            height,
-        ))
+        let (name, initializer) = beside(name, self.maybe_initializer(tokens))?;
+        let ((name, initializer), end) = beside(
+            (name, initializer),
+            tokens.expect(Row::Mark, b";"),
+        )?;
+        let (initializer, height) = initializer;
+        let declaration = Declaration::Vector(vector, element, name, initializer, end);
+        Ok((declaration, height))
     }
 
     #[tactic(auto, unfolding(sy_reading::specs::Stmts::device_vector))]
@@ -190,12 +195,14 @@ impl<
         tokens.within(b"sycl", b"device")?;
         tokens.expect(Row::Mark, b">")?;
         let name = tokens.lexed(Row::Ident)?;
-        let (initializer, height) = self.maybe_initializer(tokens)?;
-        let end = tokens.expect(Row::Mark, b";")?;
-        Ok((
-            Declaration::DeviceVector(vector, name, initializer, end),
-            height,
-        ))
+        let (name, initializer) = beside(name, self.maybe_initializer(tokens))?;
+        let ((name, initializer), end) = beside(
+            (name, initializer),
+            tokens.expect(Row::Mark, b";"),
+        )?;
+        let (initializer, height) = initializer;
+        let declaration = Declaration::DeviceVector(vector, name, initializer, end);
+        Ok((declaration, height))
     }
 
     #[tactic(auto, unfolding(sy_reading::specs::Stmts::thread_vector))]
@@ -210,7 +217,7 @@ impl<
         tokens.within(b"std", b"thread")?;
         tokens.expect(Row::Mark, b">")?;
         let name = tokens.lexed(Row::Ident)?;
-        let end = tokens.expect(Row::Mark, b";")?;
+        let (name, end) = beside(name, tokens.expect(Row::Mark, b";"))?;
         Ok((Declaration::ThreadVector(vector, name, end), 0))
     }
 
@@ -243,14 +250,13 @@ impl<
         ensures { Reads (stmts.thread (read_expr self.now.below.depth) (read_stmt self.now.below.depth) name tokens.old.rest.now) result tokens.new.rest.now }
     {
         let variable = tokens.lexed(Row::Ident)?;
-        let (brackets, _open) = opened(tokens)?;
-        let (lambda, height) = self.below.one_lambda(tokens)?;
-        closed(tokens, brackets)?;
-        let end = tokens.expect(Row::Mark, b";")?;
-        Ok((
-            Declaration::Thread(name, variable, brackets, lambda, end),
-            height,
-        ))
+        let (variable, (brackets, _open)) = beside(variable, opened(tokens))?;
+        let (variable, lambda) = beside(variable, self.below.one_lambda(tokens))?;
+        let ((variable, lambda), _close) = beside((variable, lambda), closed(tokens, brackets))?;
+        let ((variable, lambda), end) = beside((variable, lambda), tokens.expect(Row::Mark, b";"))?;
+        let (lambda, height) = lambda;
+        let declaration = Declaration::Thread(name, variable, brackets, lambda, end);
+        Ok((declaration, height))
     }
 
     /// What that name of the library of C++ declares.

@@ -3,8 +3,8 @@
 
 ghost use Rattle.std.specs.Prelude.{◌≡◌, IfOk, IsErrOf};
 ghost use Rattle.sy_note.specs.declared.Diagnostic.{Diagnostic};
-ghost use Rattle.sy_tree.specs.Units.{IsRun, IsBlock};
-ghost use Rattle.sy_pexpr.specs.Runs.{IsShortRun, IsOnlyRun, IsOnlyShortRun, IsOnlyBlock, HasNoRun, HasNoShortRun, HasNoBlock, IsReadAs};
+ghost use Rattle.sy_tree.specs.Units.{IsExpression, IsBlock};
+ghost use Rattle.sy_pexpr.specs.Runs.{IsOnlyExpression, IsOnlyBlock, HasNoExpression, HasNoBlock};
 
 mod control;
 mod declarations;
@@ -14,15 +14,12 @@ mod statements;
 #[cfg(test)]
 mod tests;
 
-use recursion::{read_block, read_expr};
+pub use recursion::{read_block, read_expr};
 use std::alloc::Global;
-use sy_cursor::{Stop, Tall, Tokens};
+use sy_cursor::{Stop, Tokens};
 use sy_lex::Token;
 use sy_note::{Code, Diagnostic, FrontStop, Spot};
 use sy_tree::{Block, Expr};
-
-/// The greatest height of the tree of an initializer that is a node itself.
-const MAX_SHORT_HEIGHT: u32 = 63;
 
 /// The place behind a token.
 fn place_after(token: &Token) -> Spot {
@@ -50,10 +47,12 @@ fn refusal(toks: &[Token], left: usize) -> Diagnostic
     }
 }
 
-/// The expression that begins at `at` and is followed by what ends one, with its height, and the place after it.
-fn run(alloc: Global, toks: &[Token], at: usize) -> Result<(Tall<Expr>, usize), FrontStop>
-    ensures found { IfOk result (λ f. IsReadAs toks.now at f.0 f.1) }
-    ensures refused { (d : Diagnostic) → IsErrOf result (FrontStop.Refused d) → (d.code ≡ Code.Grammar) × HasNoRun toks.now at }
+/// The expression that begins at `at` and is followed by what ends one, and the place after it. Where there is none,
+/// the diagnostic names the token that doesn't fit.
+pub fn expr(alloc: Global, toks: &[Token], at: usize) -> Result<(Expr, usize), FrontStop>
+    ensures found { IfOk result (λ f. IsExpression toks.now at f.0 f.1) }
+    ensures only { IfOk result (λ f. IsOnlyExpression toks.now at f.0 f.1) }
+    ensures refused { (d : Diagnostic) → IsErrOf result (FrontStop.Refused d) → (d.code ≡ Code.Grammar) × HasNoExpression toks.now at }
 {
     if at > toks.len() {
         return Err(FrontStop::Refused(refusal(toks, 0)));
@@ -61,50 +60,15 @@ fn run(alloc: Global, toks: &[Token], at: usize) -> Result<(Tall<Expr>, usize), 
     let (_before, rest) = toks.split_at(at);
     let mut tokens = Tokens::new(alloc, rest);
     match read_expr(&mut tokens, 64, 1) {
-        Ok(tall) => {
+        Ok((tree, _height)) => {
             if tokens.ends() {
-                Ok((tall, toks.len().saturating_sub(tokens.left())))
+                Ok((tree, toks.len().saturating_sub(tokens.left())))
             } else {
                 Err(FrontStop::Refused(refusal(toks, tokens.left())))
             }
         }
         Err(Stop::Grammar) => Err(FrontStop::Refused(refusal(toks, tokens.left()))),
         Err(Stop::Memory) => Err(FrontStop::Memory),
-    }
-}
-
-/// The expression that begins at `at` and is followed by what ends one, and the place after it. Where there is none,
-/// the diagnostic names the token that doesn't fit.
-pub fn expr(alloc: Global, toks: &[Token], at: usize) -> Result<(Expr, usize), FrontStop>
-    ensures found { IfOk result (λ f. IsRun toks.now at f.0 f.1) }
-    ensures only { IfOk result (λ f. IsOnlyRun toks.now at f.0 f.1) }
-    ensures refused { (d : Diagnostic) → IsErrOf result (FrontStop.Refused d) → (d.code ≡ Code.Grammar) × HasNoRun toks.now at }
-{
-    match run(alloc, toks, at) {
-        Ok((tall, end)) => {
-            let (tree, _height) = tall;
-            Ok((tree, end))
-        }
-        Err(stop) => Err(stop),
-    }
-}
-
-/// The same of an expression that leaves a level for the node that holds it: the initializer of a constant of a file.
-pub fn short_expr(alloc: Global, toks: &[Token], at: usize) -> Result<(Expr, usize), FrontStop>
-    ensures found { IfOk result (λ f. IsShortRun toks.now at f.0 f.1) }
-    ensures only { IfOk result (λ f. IsOnlyShortRun toks.now at f.0 f.1) }
-    ensures refused { (d : Diagnostic) → IsErrOf result (FrontStop.Refused d) → (d.code ≡ Code.Grammar) × HasNoShortRun toks.now at }
-{
-    match run(alloc, toks, at) {
-        Ok((tall, end)) => {
-            let (tree, height) = tall;
-            if height > MAX_SHORT_HEIGHT {
-                Err(FrontStop::Refused(refusal(toks, toks.len().saturating_sub(end))))
-            } else {
-                Ok((tree, end))
-            }
-        }
-        Err(stop) => Err(stop),
     }
 }
 

@@ -26,9 +26,10 @@ pub fn read_expr(tokens: &mut Tokens<'_>, depth: usize, least: u8) -> Result<Tal
     .chain(tokens, least)
 }
 
+/// A statement.
 #[cycle(parser)]
 #[tactic(auto, unfolding(sy_reading::specs::Reading::readers))]
-pub fn read_stmt(tokens: &mut Tokens<'_>, depth: usize) -> Result<Tall<Stmt>, Stop>
+fn read_stmt(tokens: &mut Tokens<'_>, depth: usize) -> Result<Tall<Stmt>, Stop>
     ensures { Reads (spec.read_stmt depth tokens.old.rest.now) result tokens.new.rest.now }
 {
     if depth == 0 {
@@ -44,6 +45,7 @@ pub fn read_stmt(tokens: &mut Tokens<'_>, depth: usize) -> Result<Tall<Stmt>, St
     .one_stmt(tokens)
 }
 
+/// The block that comes next.
 pub fn read_block(tokens: &mut Tokens<'_>) -> Result<Tall<Block>, Stop>
     ensures { Reads (spec.read_block 64 tokens.old.rest.now) result tokens.new.rest.now }
 {

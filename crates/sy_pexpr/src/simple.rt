@@ -1,19 +1,17 @@
 //! The rules of statements that hold no other statement.
 
-ghost use Rattle.std.specs.Prelude.{◌≡◌, ◌≢◌, [], length, Some, None, IfOk, IfErr};
+ghost use Rattle.std.specs.Prelude.{◌≡◌, [], length, Some};
 ghost use Rattle.sy_reading.specs.Reading.{read_expr, read_stmt};
 ghost use Rattle.sy_cursor.specs.Reads.{Reads};
-ghost use Rattle.sy_reading.specs.Input as input;
 ghost use Rattle.sy_pexpr.specs.Rests as rests;
 ghost use Rattle.sy_exprs.specs.Nests.{Nests};
 ghost use Rattle.sy_reading.specs.Stmts as stmts;
 
-use crate::statements::Statements;
+use crate::statements::{Statements, node};
 use sqlite_items::Items;
-use sy_cursor::{Stop, Tall, Tokens, assignment_of, declares_object, grown, sees_type};
+use sy_cursor::{Stop, Tall, Tokens, assignment_of, beside, declares_object, grown, sees_type};
 use sy_lex::Row;
-use sy_note::Spot;
-use sy_tree::{Expr, FullExpression, Printed, Stmt};
+use sy_tree::{AssignmentOperator, Expr, FullExpression, Printed, Stmt};
 
 /// Whether a declaration of integers begins, and no cast.
 #[tactic(auto, unfolding(sy_reading::specs::Stmts::declares_integers))]
@@ -26,15 +24,6 @@ fn declares_integers(tokens: &Tokens<'_>) -> bool
         || (sees_type(tokens) && !tokens.behind().sees(Row::Mark, b"("))
 }
 
-/// What has been read, and the place of the mark that ends it.
-fn up_to<A: Drop>(tokens: &mut Tokens<'_>, found: A, mark: &[u8]) -> Result<(A, Spot), Stop>
-    ensures ended { IfOk result (λ both. (both.0 ≡ found) × (input.expect Row.Mark mark.now tokens.old.rest.now ≡ Some (both.1, tokens.new.rest.now))) }
-    ensures refused { IfErr result (λ stop. stop ≢ Stop.Memory → input.expect Row.Mark mark.now tokens.old.rest.now ≡ None) }
-{
-    let end = tokens.expect(Row::Mark, mark)?;
-    Ok((found, end))
-}
-
 /// The statement of an expression that has been read, up to its `;`.
 fn ended_expression(
     tokens: &mut Tokens<'_>,
@@ -42,31 +31,45 @@ fn ended_expression(
 ) -> Result<Tall<Stmt>, Stop>
     ensures { Reads (rests.ended_expression found tokens.old.rest.now) result tokens.new.rest.now }
 {
-    let ((expression, height), end) = up_to(tokens, found, b";")?;
-    grown(tokens, Stmt::Expression(expression, end), height)
+    let ((expression, height), end) = beside(found, tokens.expect(Row::Mark, b";"))?;
+    node(tokens, Stmt::Expression(expression, end), height)
 }
 
 impl<
     E: Fn(&mut Tokens<'_>, usize, u8) -> Result<Tall<Expr>, Stop>,
     S: Fn(&mut Tokens<'_>, usize) -> Result<Tall<Stmt>, Stop>,
 > Statements<E, S> {
+    /// The rest of an assignment, whose target has been read.
+    fn assigned(
+        &self,
+        tokens: &mut Tokens<'_>,
+        target: Tall<Expr>,
+        operator: AssignmentOperator,
+    ) -> Result<Tall<FullExpression>, Stop>
+        requires { Nests self.now.below.depth (E.pre self.now.below.expr) (E.post self.now.below.expr) (S.pre self.now.below.stmt) (S.post self.now.below.stmt) }
+        ensures { Reads (stmts.assigned (read_expr self.now.below.depth) (read_stmt self.now.below.depth) target (Some operator) tokens.old.rest.now) result tokens.new.rest.now }
+    {
+        let (target, spot) = beside(target, tokens.advance())?;
+        let (target, value) = beside(target, self.below.sub_expr(tokens, 1))?;
+        let (target, height) = target;
+        let (value, tall) = value;
+        let found = FullExpression::Assignment(target, spot, operator, value);
+        Ok((found, height.max(tall)))
+    }
+
     /// The parts of an expression that is evaluated by itself, with the height of what it holds.
     #[tactic(auto, unfolding(sy_reading::specs::Stmts::full_parts))]
     pub fn full_parts(&self, tokens: &mut Tokens<'_>) -> Result<Tall<FullExpression>, Stop>
         requires { Nests self.now.below.depth (E.pre self.now.below.expr) (E.post self.now.below.expr) (S.pre self.now.below.stmt) (S.post self.now.below.stmt) }
         ensures { Reads (stmts.full_parts (read_expr self.now.below.depth) (read_stmt self.now.below.depth) tokens.old.rest.now) result tokens.new.rest.now }
     {
-        let (target, height) = self.below.sub_expr(tokens, 1)?;
+        let target = self.below.sub_expr(tokens, 1)?;
         match assignment_of(tokens.mark()) {
-            None => Ok((FullExpression::Plain(target), height)),
-            Some(operator) => {
-                let spot = tokens.advance()?;
-                let (value, tall) = self.below.sub_expr(tokens, 1)?;
-                Ok((
-                    FullExpression::Assignment(target, spot, operator, value),
-                    height.max(tall),
-                ))
+            None => {
+                let (target, height) = target;
+                Ok((FullExpression::Plain(target), height))
             }
+            Some(operator) => self.assigned(tokens, target, operator),
         }
     }
 
@@ -94,7 +97,7 @@ impl<
         ensures { Reads (stmts.null (read_expr self.now.below.depth) (read_stmt self.now.below.depth) tokens.old.rest.now) result tokens.new.rest.now }
     {
         let spot = tokens.expect(Row::Mark, b";")?;
-        grown(tokens, Stmt::Null(spot), 0)
+        node(tokens, Stmt::Null(spot), 0)
     }
 
     #[tactic(auto, unfolding(sy_reading::specs::Stmts::library_statement))]
@@ -104,7 +107,7 @@ impl<
     {
         if declares_object(tokens)? {
             let (declaration, height) = self.object_declaration(tokens)?;
-            grown(tokens, Stmt::Declaration(declaration), height)
+            node(tokens, Stmt::Declaration(declaration), height)
         } else {
             self.expression(tokens)
         }
@@ -120,10 +123,10 @@ impl<
             self.null(tokens)
         } else if declares_integers(tokens) {
             let (declaration, height) = self.integers(tokens)?;
-            grown(tokens, Stmt::Declaration(declaration), height)
+            node(tokens, Stmt::Declaration(declaration), height)
         } else if tokens.sees_namespace(b"std") {
             let (declaration, height) = self.standard_declaration(tokens)?;
-            grown(tokens, Stmt::Declaration(declaration), height)
+            node(tokens, Stmt::Declaration(declaration), height)
         } else if tokens.sees_namespace(b"sycl") {
             self.library_statement(tokens)
         } else {
@@ -172,9 +175,9 @@ impl<
         ensures { Reads (stmts.print (read_expr self.now.below.depth) (read_stmt self.now.below.depth) tokens.old.rest.now) result tokens.new.rest.now }
     {
         let name = tokens.within(b"std", b"cout")?;
-        let (items, height) = self.printed(tokens)?;
-        let end = tokens.expect(Row::Mark, b";")?;
-        grown(tokens, Stmt::Print(name, items, end), height)
+        let items = self.printed(tokens)?;
+        let ((items, height), end) = beside(items, tokens.expect(Row::Mark, b";"))?;
+        node(tokens, Stmt::Print(name, items, end), height)
     }
 
     #[tactic(auto, unfolding(sy_reading::specs::Stmts::break_loop))]
@@ -184,7 +187,7 @@ impl<
     {
         let spot = tokens.expect(Row::Reserved, b"break")?;
         let end = tokens.expect(Row::Mark, b";")?;
-        grown(tokens, Stmt::Break(spot, end), 0)
+        node(tokens, Stmt::Break(spot, end), 0)
     }
 
     #[tactic(auto, unfolding(sy_reading::specs::Stmts::continue_loop))]
@@ -194,7 +197,7 @@ impl<
     {
         let spot = tokens.expect(Row::Reserved, b"continue")?;
         let end = tokens.expect(Row::Mark, b";")?;
-        grown(tokens, Stmt::Continue(spot, end), 0)
+        node(tokens, Stmt::Continue(spot, end), 0)
     }
 
     #[tactic(auto, unfolding(sy_reading::specs::Stmts::maybe_expr))]
@@ -229,8 +232,8 @@ impl<
         ensures { Reads (stmts.return_value (read_expr self.now.below.depth) (read_stmt self.now.below.depth) tokens.old.rest.now) result tokens.new.rest.now }
     {
         let spot = tokens.expect(Row::Reserved, b"return")?;
-        let (value, height) = self.maybe_expr(tokens)?;
-        let end = tokens.expect(Row::Mark, b";")?;
-        grown(tokens, Stmt::Return(spot, value, end), height)
+        let value = self.maybe_expr(tokens)?;
+        let ((value, height), end) = beside(value, tokens.expect(Row::Mark, b";"))?;
+        node(tokens, Stmt::Return(spot, value, end), height)
     }
 }

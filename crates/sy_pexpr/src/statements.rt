@@ -2,12 +2,13 @@
 //! is proved by itself.
 
 ghost use Rattle.std.specs.Prelude.{◌≡◌};
+ghost use Rattle.sy_reading.specs.Input as input;
 ghost use Rattle.sy_reading.specs.Reading.{read_expr, read_stmt};
 ghost use Rattle.sy_cursor.specs.Reads.{Reads};
 ghost use Rattle.sy_exprs.specs.Nests.{Nests};
 ghost use Rattle.sy_reading.specs.Stmts as stmts;
 
-use sy_cursor::{Stop, Tall, Tokens};
+use sy_cursor::{Stop, Tall, Tokens, grown};
 use sy_exprs::Grammar;
 use sy_lex::Row;
 use sy_tree::{Expr, Stmt};
@@ -16,6 +17,13 @@ use sy_tree::{Expr, Stmt};
 #[derive(Clone, Copy)]
 pub struct Statements<E, S> {
     pub below: Grammar<E, S>,
+}
+
+/// A statement over parts of that height, unless it is too high.
+pub fn node(tokens: &Tokens<'_>, tree: Stmt, height: u32) -> Result<Tall<Stmt>, Stop>
+    ensures { Reads (input.grown tree height tokens.now.rest.now) result tokens.now.rest.now }
+{
+    grown(tokens, tree, height)
 }
 
 /// Whether `std::cout` comes next.

@@ -30,11 +30,6 @@ fn expr_in(rt: HostRuntime, text: &[u8]) -> Result<Answer, Fail> {
     Ok(answer(expr(rt.alloc(), toks.as_slice(), 0)))
 }
 
-fn short_expr_in(rt: HostRuntime, text: &[u8]) -> Result<Answer, Fail> {
-    let toks = tokens_of(rt, text)?;
-    Ok(answer(short_expr(rt.alloc(), toks.as_slice(), 0)))
-}
-
 fn block_in(rt: HostRuntime, text: &[u8]) -> Result<Answer, Fail> {
     let toks = tokens_of(rt, text)?;
     Ok(answer(block(rt.alloc(), toks.as_slice(), 0)))
@@ -90,26 +85,6 @@ fn expressions(rt: HostRuntime) -> Result<(), Fail> {
     ];
     for (text, wanted) in table {
         let got = expr_in(rt, text)?;
-        assert_eq!(rt; got, wanted);
-    }
-    Ok(())
-}
-
-#[test]
-fn short_expressions(rt: HostRuntime) -> Result<(), Fail> {
-    let table: [(&[u8], Answer); 3] = [
-        (
-            b"((((((((((((((((((((((((((((((((((((((((((((((((((((((((((((((1))))))))))))))))))))))))))))))))))))))))))))))))))))))))))))));",
-            Ok(125),
-        ),
-        (
-            b"(((((((((((((((((((((((((((((((((((((((((((((((((((((((((((((((1)))))))))))))))))))))))))))))))))))))))))))))))))))))))))))))));",
-            Err((1, 128)),
-        ),
-        (b"1 1", Err((1, 3))),
-    ];
-    for (text, wanted) in table {
-        let got = short_expr_in(rt, text)?;
         assert_eq!(rt; got, wanted);
     }
     Ok(())

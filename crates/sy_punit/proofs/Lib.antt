@@ -1,4 +1,3 @@
-pub mod Below
 pub mod Kept
 pub mod Parsed
 pub mod UnitRead

@@ -1,5 +1,5 @@
 -- What one step of the qualification looks at, and what it writes.
-use Rattle.std.specs.Prelude.{ℕ, Bool, false, ◌&&◌, if◌then◌else◌, List, [], ◌∷◌, drop, codes}
+use Rattle.std.specs.Prelude.{ℕ, Bool, false, ◌&&◌, if◌then◌else◌, List, [], ◌∷◌, codes}
 use Rattle.sy_lex.specs.declared.Token.{Token}
 use Rattle.sy_tree.specs.Qualification.{is_std, is_scope, is_type_word, with_namespace}
 
@@ -7,10 +7,6 @@ use Rattle.sy_tree.specs.Qualification.{is_std, is_scope, is_type_word, with_nam
 abbrev pub drops_std : List Token → Bool
 drops_std (s ∷ c ∷ t ∷ more) = is_std s.word && is_scope c.word && is_type_word t.word
 drops_std _ = false
-
--- the tokens from the next one that is kept on
-abbrev pub kept_from : List Token → List Token
-kept_from tokens = if drops_std tokens then drop 2 tokens else tokens
 
 -- a token, with its namespace if it is to have one
 abbrev pub written : Bool → Token → List Token

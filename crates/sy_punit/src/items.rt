@@ -4,13 +4,36 @@ ghost use Rattle.std.specs.Prelude.{◌≡◌};
 ghost use Rattle.sy_cursor.specs.Reads.{Reads};
 ghost use Rattle.sy_punit.specs.Reader as spec;
 
-use crate::calls::{body, short_value};
 use crate::parameters::parameters;
-use sy_cursor::{Stop, Tokens, integral, type_specifier};
+use sy_cursor::{MAX_HEIGHT, Stop, Tokens, integral, type_specifier};
 use sy_lex::Row;
+use sy_pexpr::{read_block, read_expr};
 use sy_tree::{
-    Brackets, ConstSpecifier, Constant, Declarator, FileItem, Function, Lexeme, ReturnType,
+    Block, Brackets, ConstSpecifier, Constant, Declarator, Expr, FileItem, Function, Lexeme,
+    ReturnType,
 };
+
+/// The value of a constant, up to what ends it. The constant is a node above it, so it has one level less.
+#[tactic(auto, unfolding(crate::specs::Reader::short_value))]
+fn short_value(tokens: &mut Tokens<'_>) -> Result<Expr, Stop>
+    ensures { Reads (spec.short_value tokens.old.rest.now) result tokens.new.rest.now }
+{
+    let (value, height) = read_expr(tokens, 64, 1)?;
+    if height < MAX_HEIGHT && tokens.ends() {
+        Ok(value)
+    } else {
+        Err(Stop::Grammar)
+    }
+}
+
+/// A block, of which the height is of no more use.
+#[tactic(auto, unfolding(crate::specs::Reader::body))]
+fn body(tokens: &mut Tokens<'_>) -> Result<Block, Stop>
+    ensures { Reads (spec.body tokens.old.rest.now) result tokens.new.rest.now }
+{
+    let (block, _height) = read_block(tokens)?;
+    Ok(block)
+}
 
 #[tactic(auto, unfolding(crate::specs::Reader::fixed_specifier))]
 fn fixed_specifier(tokens: &mut Tokens<'_>) -> Result<ConstSpecifier, Stop>

@@ -7,7 +7,6 @@ ghost use Rattle.sy_note.specs.declared.Diagnostic.{Diagnostic};
 ghost use Rattle.sy_tree.specs.declared.tree.Unit.{Unit as SourceUnit};
 ghost use Rattle.sy_tree.specs.Units.{IsUnit};
 
-mod calls;
 mod items;
 mod names;
 mod parameters;
@@ -63,10 +62,10 @@ fn refusal(bytes: &[u8], rest: &[Token]) -> FrontStop
 
 /// The unit that the tokens of a source are. Where they are none, the diagnostic says [`Code::Grammar`] and names the
 /// furthest token at which nothing went on, or the end of the text, which is what the bytes are for.
-pub fn parse(alloc: Global, bytes: &[u8], toks: &[Token]) -> Result<Unit, FrontStop>
-    ensures found { IfOk result (λ u. IsUnit toks.now u) }
-    ensures only { IfOk result (λ u. (v : SourceUnit) → IsUnit toks.now v → v ≡ u) }
-    ensures refused { (d : Diagnostic) → IsErrOf result (FrontStop.Refused d) → (d.code ≡ Code.Grammar) × ((v : SourceUnit) → IsUnit toks.now v → ⊥) }
+pub fn parse(alloc: Global, bytes: &[u8], toks: Vec<Token>) -> Result<Unit, FrontStop>
+    ensures found { IfOk result (λ u. IsUnit toks.items u) }
+    ensures only { IfOk result (λ u. (v : SourceUnit) → IsUnit toks.items v → v ≡ u) }
+    ensures refused { (d : Diagnostic) → IsErrOf result (FrontStop.Refused d) → (d.code ≡ Code.Grammar) × ((v : SourceUnit) → IsUnit toks.items v → ⊥) }
 {
     let qualified = match qualify(alloc, toks) {
         Ok(qualified) => qualified,

@@ -1,12 +1,13 @@
 //! Names of the library written out, as the grammar has them.
 
-ghost use Rattle.std.specs.Prelude.{◌≡◌, ◌++◌, [], ◌∷◌, IfOk, OnOk, MatchOption, codes, ◌&&◌, ◌||◌, not, if◌then◌else◌};
+ghost use Rattle.std.specs.Prelude.{◌≡◌, ◌++◌, [], ◌∷◌, ◌<◌, length, IsTrue, IfOk, OnOk, OnSome, MatchOption, codes, ◌&&◌, ◌||◌, not, if◌then◌else◌};
 ghost use Rattle.std.specs.List.{list_any};
 ghost use Rattle.std.specs.Str.{bytes_eq};
 ghost use Rattle.sy_tree.specs.Qualification as spec;
-ghost use Rattle.sy_punit.specs.Qualifying.{drops_std, kept_from, written, type_names, value_names, function_names};
+ghost use Rattle.sy_punit.specs.Qualifying.{drops_std, written, type_names, value_names, function_names};
 
 use std::alloc::{AllocError, Global};
+use std::collections::VecDeque;
 use sy_lex::{Row, Text, Token, Word};
 
 macro_rules! is_one_of {
@@ -155,41 +156,35 @@ fn beside(alloc: Global, token: &Token, row: Row, text: &[u8]) -> Result<Token, 
     })
 }
 
-fn copied(alloc: Global, token: &Token) -> Result<Token, AllocError>
-    ensures { IfOk result (λ t. t ≡ token.now) }
+/// Puts a token behind the others, with its namespace before it.
+fn keep_named(alloc: Global, out: &mut Vec<Token>, token: Token) -> Result<(), AllocError>
+    ensures { OnOk result (out.new.items ≡ out.old.items ++ spec.with_namespace token) }
 {
-    beside(alloc, token, token.word.row, token.word.text.items())
-}
-
-/// Puts a token behind the others.
-fn keep_plain(alloc: Global, out: &mut Vec<Token>, token: &Token) -> Result<(), AllocError>
-    ensures { OnOk result (out.new.items ≡ out.old.items ++ token.now ∷ []) }
-{
-    let token = copied(alloc, token)?;
+    let namespace = beside(alloc, &token, Row::Ident, b"sycl")?;
+    let scope = beside(alloc, &token, Row::Mark, b"::")?;
+    out.push(namespace)?;
+    out.push(scope)?;
     out.push(token)?;
     Ok(())
 }
 
-/// The same, with its namespace before it.
-fn keep_named(alloc: Global, out: &mut Vec<Token>, token: &Token) -> Result<(), AllocError>
-    ensures { OnOk result (out.new.items ≡ out.old.items ++ spec.with_namespace token.now) }
-{
-    let namespace = beside(alloc, token, Row::Ident, b"sycl")?;
-    let scope = beside(alloc, token, Row::Mark, b"::")?;
-    out.push(namespace)?;
-    out.push(scope)?;
-    keep_plain(alloc, out, token)
-}
-
 /// Puts a token behind the others, with its namespace before it if it is to have one.
-fn keep(alloc: Global, out: &mut Vec<Token>, token: &Token, named: bool) -> Result<(), AllocError>
-    ensures { OnOk result (out.new.items ≡ out.old.items ++ written named token.now) }
+fn keep(alloc: Global, out: &mut Vec<Token>, token: Token, named: bool) -> Result<(), AllocError>
+    ensures { OnOk result (out.new.items ≡ out.old.items ++ written named token) }
 {
     if named {
         keep_named(alloc, out, token)
     } else {
-        keep_plain(alloc, out, token)
+        out.push(token)?;
+        Ok(())
     }
+}
+
+/// Whether these are `std::` and a name of an integer type.
+fn are_std_type(first: &Token, second: &Token, third: &Token) -> bool
+    ensures { result ≡ spec.is_std first.now.word && spec.is_scope second.now.word && spec.is_type_word third.now.word }
+{
+    is_std(&first.word) && is_scope(&second.word) && is_type_word(&third.word)
 }
 
 /// Whether `std::` and a name of an integer type come next.
@@ -197,52 +192,81 @@ fn drops_std(rest: &[Token]) -> bool
     ensures { result ≡ drops_std rest.now }
 {
     match rest {
-        [first, second, third, ..] => {
-            is_std(&first.word) && is_scope(&second.word) && is_type_word(&third.word)
-        }
+        [first, second, third, ..] => are_std_type(first, second, third),
         _ => false,
     }
 }
 
-/// The tokens from the next one that is kept on.
-fn kept_from(rest: &[Token]) -> &[Token]
-    ensures { result.now ≡ kept_from rest.now }
+/// The same of tokens that leave their list one after the other.
+fn std_leaves(rest: &VecDeque<Token>) -> bool
+    ensures { result ≡ drops_std rest.now.items }
 {
-    if drops_std(rest) {
-        match rest {
-            [_, _, kept @ ..] => kept,
-            _ => rest,
-        }
-    } else {
-        rest
-    }
+    rest.len() >= 3 && are_std_type(&rest[0], &rest[1], &rest[2])
 }
 
-/// The next token that is kept, and what stands behind it.
-fn next_kept(rest: &[Token]) -> Option<(&Token, &[Token])>
-    ensures { MatchOption result (kept_from rest.now ≡ []) (λ p. kept_from rest.now ≡ p.0.now ∷ p.1.now) }
+/// Takes the next token that is kept. Where `std::` is dropped before it, it has the place of that `std`.
+fn next_kept(rest: &mut VecDeque<Token>) -> Option<Token>
+    ensures kept { MatchOption result (spec.without_std rest.old.items ≡ []) (λ t. spec.without_std rest.old.items ≡ t ∷ spec.without_std rest.new.items) }
+    ensures fewer { OnSome result (length rest.new.items < length rest.old.items) }
 {
-    match kept_from(rest) {
-        [] => None,
-        [first, others @ ..] => Some((first, others)),
+    if !std_leaves(rest) {
+        return rest.pop_front();
     }
+    let std = rest.pop_front()?;
+    let _scope = rest.pop_front()?;
+    let name = rest.pop_front()?;
+    Some(Token {
+        word: name.word,
+        from: std.from,
+        to: std.to,
+        spot: std.spot,
+    })
 }
 
-/// The tokens of a source with each name of the library written out: `std::` is dropped before the name of an integer
-/// type, and after `using namespace sycl;` the names of the library get their namespace.
-pub fn qualify(alloc: Global, toks: &[Token]) -> Result<Vec<Token>, AllocError>
-    ensures { IfOk result (λ v. v.items ≡ spec.qualified toks.now) }
+/// Whether nothing is to be written out.
+fn is_written_out(toks: &[Token]) -> bool
+    ensures { IsTrue result → spec.qualified toks.now ≡ toks.now }
 {
-    let mut out = Vec::new(alloc);
     let mut rest = toks;
     let mut used = false;
     let mut selected = false;
-    while let Some((token, others)) = next_kept(rest) {
-        let named = gets_namespace(used, selected, &token.word);
-        keep(alloc, &mut out, token, named)?;
+    while let [token, others @ ..] = rest {
+        if drops_std(rest) || gets_namespace(used, selected, &token.word) {
+            return false;
+        }
         used = is_used(used, &token.word);
         selected = is_selector(&token.word);
         rest = others;
     }
+    true
+}
+
+/// The tokens in a new list, with each name of the library written out.
+fn write_out(alloc: Global, toks: Vec<Token>) -> Result<Vec<Token>, AllocError>
+    ensures { IfOk result (λ v. v.items ≡ spec.qualified toks.items) }
+{
+    let mut out = Vec::with_capacity(alloc, toks.len())?;
+    let mut rest = VecDeque::from(toks);
+    let mut used = false;
+    let mut selected = false;
+    while let Some(token) = next_kept(&mut rest) {
+        let named = gets_namespace(used, selected, &token.word);
+        used = is_used(used, &token.word);
+        selected = is_selector(&token.word);
+        keep(alloc, &mut out, token, named)?;
+    }
     Ok(out)
+}
+
+/// The tokens of a source with each name of the library written out: `std::` is dropped before the name of an integer
+/// type, and after `using namespace sycl;` the names of the library get their namespace. Where there is nothing to
+/// write out, it is the same list.
+pub fn qualify(alloc: Global, toks: Vec<Token>) -> Result<Vec<Token>, AllocError>
+    ensures { IfOk result (λ v. v.items ≡ spec.qualified toks.items) }
+{
+    if is_written_out(toks.as_slice()) {
+        Ok(toks)
+    } else {
+        write_out(alloc, toks)
+    }
 }

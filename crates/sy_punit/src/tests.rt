@@ -20,7 +20,7 @@ fn outcome(rt: HostRuntime, text: &[u8]) -> Answer {
         Ok(toks) => toks,
         Err(_) => return Answer::Other,
     };
-    match parse(rt.alloc(), text, toks.as_slice()) {
+    match parse(rt.alloc(), text, toks) {
         Ok(_) => Answer::Taken,
         Err(FrontStop::Refused(refusal)) => {
             Answer::RefusedAt(refusal.spot.line, refusal.spot.column)
@@ -331,7 +331,7 @@ const SOURCES_NOT_TAKEN: [&'static [u8]; 27] = [
     b"const int n = (((((((((((((((((((((((((((((((((((((((((((((((((((((((((((((((1))))))))))))))))))))))))))))))))))))))))))))))))))))))))))))))); int f() {}",
 ];
 /// Refused texts, each with the line and column at which nothing fits.
-const PLACES: [(&'static [u8], u32, u32); 36] = [
+const PLACES: [(&'static [u8], u32, u32); 37] = [
     (b"", 1, 1),
     (b"// nothing\n", 2, 1),
     (b"int main() {", 1, 13),
@@ -353,6 +353,7 @@ const PLACES: [(&'static [u8], u32, u32); 36] = [
     (b"int f(int x,) {}", 1, 13),
     (b"int f(int x int y) {}", 1, 13),
     (b"int f(auto x) {}", 1, 7),
+    (b"int f(int std::size_t) {}", 1, 11),
     (b"int f(sycl::queue q) {}", 1, 19),
     (b"int f(sycl::event& e) {}", 1, 13),
     (b"int f(sycl::buffer& b) {}", 1, 19),

@@ -5,7 +5,7 @@ use Rattle.sy_tree.specs.declared.tree.Block.{Block}
 use Rattle.sy_tree.specs.declared.tree.Expr.{Expr}
 use Rattle.sy_tree.specs.Expressions.{an_expr, a_block}
 use Rattle.sy_tree.specs.Grammar.{Derives, Passes}
-use Rattle.sy_tree.specs.Units.{IsRun, IsBlock, ends}
+use Rattle.sy_tree.specs.Units.{IsExpression, IsBlock, ends}
 use Rattle.sy_tree.proofs.Theorems.{Derives-taller, Derives-takes}
 use Rattle.sy_reading.specs.Input.{Tall}
 use Rattle.sy_reading.specs.Reading.{readers, read_expr, read_block}
@@ -21,7 +21,7 @@ module _ (toks : List Token) (at : ℕ) where
       there ∙ ap (λ k. drop k toks) count
 
   pub expr_found : (t : Tall Expr) (rest : List Token) → at ≤ length toks → read_expr 64 1 (drop at toks) ≡ Some (t, rest) → ends rest ≡ true →
-      IsRun toks at t.0 (length toks - length rest)
+      IsExpression toks at t.0 (length toks - length rest)
   expr_found t rest within answer ended =
       let s = (reads_sound 64).0 1 (drop at toks) rest t (omega arith) (omega arith) answer in
       let d = Derives-taller t.1 64 s.0.1 (an_expr 1 t.0) (drop at toks) rest s.0.0 in

@@ -52,19 +52,19 @@ library_names = codes "buffer" ∷ codes "accessor" ∷ codes "host_accessor" �
 abbrev pub is_library_name : Word → Bool
 is_library_name w = is_one_of row.Ident library_names w
 
--- ---- `std::` before the name of an integer type
-
--- it is dropped, as the bare name means the same
-abbrev pub without_std : List Token → List Token
-without_std (s ∷ c ∷ t ∷ more) =
-    if is_std s.word && is_scope c.word && is_type_word t.word then t ∷ without_std more else s ∷ without_std (c ∷ t ∷ more)
-without_std tokens = tokens
-
--- ---- `using namespace sycl;`
-
 -- the word at the place of that token
 abbrev pub beside : Token → Word → Token
 beside t w = record { word = w; from = t.from; to = t.to; spot = t.spot }
+
+-- ---- `std::` before the name of an integer type
+
+-- it is dropped, as the bare name means the same; the name has the place of that `std`
+abbrev pub without_std : List Token → List Token
+without_std (s ∷ c ∷ t ∷ more) =
+    if is_std s.word && is_scope c.word && is_type_word t.word then beside s t.word ∷ without_std more else s ∷ without_std (c ∷ t ∷ more)
+without_std tokens = tokens
+
+-- ---- `using namespace sycl;`
 
 -- a name of the library with its namespace
 abbrev pub with_namespace : Token → List Token

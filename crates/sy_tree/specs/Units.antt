@@ -87,7 +87,7 @@ ends [] = false
 ends (t ∷ ts) = ends_by t.word
 
 -- The tokens from `at` up to `end` are that expression, and one follows that ends it.
-pub record IsRun (tokens : List Token) (at : ℕ) (x : Expr) (end : ℕ) : Type 0 where
+pub record IsExpression (tokens : List Token) (at : ℕ) (x : Expr) (end : ℕ) : Type 0 where
   pub within : end ≤ length tokens
   pub derived : Derives max_height (an_expr 1 x) (drop at tokens) (drop end tokens)
   pub ended : ends (drop end tokens) ≡ true

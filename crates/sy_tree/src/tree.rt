@@ -1,6 +1,7 @@
 //! The tree of a source, with one variant for each alternative of the grammar.
 //!
 //! Each node has the place of one token of its own. Where a node ends with a bracket or `;`, it has that place too.
+//! What would make every expression wide stands in a box, which contracts see as the value in it.
 
 use crate::operators::{AssignmentOperator, Operator};
 use crate::parts::{
@@ -20,23 +21,29 @@ pub enum Expr {
     Boolean(Spot, bool),
     Name(Lexeme),
     /// A call of a function of the source.
-    Call(Lexeme, Items<Expr>, Spot),
+    Call(Boxed<Lexeme>, Items<Expr>, Spot),
     Parenthesized(Spot, Boxed<Expr>, Spot),
     StaticCast(Spot, IntegerType, Boxed<Expr>, Spot),
     /// The type has one word.
     FunctionalCast(IntegerType, Boxed<Expr>, Spot),
-    Construct(ObjectType, Brackets, Spot, Items<Argument>, Spot),
+    Construct(Boxed<ObjectType>, Brackets, Spot, Boxed<Items<Argument>>, Spot),
     GroupBarrier(Qualified, Boxed<Expr>, Spot),
     AccessTag(Qualified, AccessTag),
     /// `property::queue::in_order`.
     InOrder(Qualified, Brackets, Spot),
-    ErrorCode(Qualified, Lexeme),
+    ErrorCode(Qualified, Boxed<Lexeme>),
     /// `property::reduction::initialize_to_identity`.
     InitializeToIdentity(Qualified, Brackets, Spot),
     FunctionObject(Qualified, FunctionObject, Option<IntegerType>, Brackets, Spot),
     LibraryCall(Qualified, LibraryFunction, Items<Argument>, Spot),
     Subscript(Boxed<Expr>, Spot, Boxed<Expr>, Spot),
-    MemberCall(Boxed<Expr>, Lexeme, Option<TemplateArgument>, Items<Argument>, Spot),
+    MemberCall(
+        Boxed<Expr>,
+        Boxed<Lexeme>,
+        Option<Boxed<TemplateArgument>>,
+        Boxed<Items<Argument>>,
+        Spot,
+    ),
     Postfix(Boxed<Expr>, Spot, Step),
     Prefix(Spot, Step, Boxed<Expr>),
     Unary(Spot, UnOp, Boxed<Expr>),

@@ -25,4 +25,4 @@ returns g c =
     let names : one_word c.args.tokens.now.rest.now ≡ Some (c.in_ok-target.target, c.one_word.new.tokens.rest.now) = c.in_ok-target.ensures in
     let holds : parenthesis (read_expr c.args.self.now.depth) (read_stmt c.args.self.now.depth) c.one_word.new.tokens.rest.now ≡ Some (((c.in_ok-inner.inner, c.in_ok-inner.height), c.in_ok-inner.close), c.parenthesis.new.tokens.rest.now) = c.in_ok-inner.ensures in
     let box : c.in_ok-new.field-0 ≡ c.in_ok-inner.inner = c.in_ok-new.ensures in
-    rw (names, holds, sym box) c.grown.ensures
+    rw (names, holds, sym box) c.node.ensures

@@ -33,4 +33,4 @@ returns g c =
     let closes : expect row.Mark (codes ">") c.integral.new.tokens.rest.now ≡ Some (c.in_ok-expect-2.field-0, c.expect-3.new.self.rest.now) = c.in_ok-expect-2.ensures in
     let holds : parenthesis (read_expr c.args.self.now.depth) (read_stmt c.args.self.now.depth) c.expect-3.new.self.rest.now ≡ Some (((c.in_ok-inner.inner, c.in_ok-inner.height), c.in_ok-inner.close), c.parenthesis.new.tokens.rest.now) = c.in_ok-inner.ensures in
     let box : c.in_ok-new.field-0 ≡ c.in_ok-inner.inner = c.in_ok-new.ensures in
-    rw (begins, opens, names, closes, holds, sym box) c.grown.ensures
+    rw (begins, opens, names, closes, holds, sym box) c.node.ensures

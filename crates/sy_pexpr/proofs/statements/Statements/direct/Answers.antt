@@ -1,16 +1,16 @@
-use Rattle.std.proofs.Common.{refl}
+use Rattle.std.proofs.Common.{refl, ap}
 use Rattle.sy_reading.specs.Stmts.{direct}
-use Rattle.sy_pexpr.proofs.Exits.{err_exit}
+use Rattle.sy_cursor.proofs.StepLaws.{reads_ok, reads_err, err_exit}
 use Rattle.sy_pexpr.proofs.statements.Statements.direct.Goals as goal
 
 pub returns-in_err-items : goal.returns-in_err-items
 unfolding direct
 returns-in_err-items g c = err_exit _ _ _ _ c.from_residual-in_err-items.ensures.1 (λ ne. rw (c.in_ok-brackets.ensures, c.in_err-items.ensures ne) refl)
 
-pub returns-in_err-close : goal.returns-in_err-close
+pub returns-in_err-items-2 : goal.returns-in_err-items-2
 unfolding direct
-returns-in_err-close g c = err_exit _ _ _ _ c.from_residual-in_err-close.ensures.1 (λ ne. rw (c.in_ok-brackets.ensures, c.in_ok-items.ensures, c.in_err-close.ensures ne) refl)
+returns-in_err-items-2 g c = err_exit _ _ _ _ c.from_residual-in_err-items-2.ensures.1 (λ ne. rw (c.in_ok-brackets.ensures, c.in_ok-items.ensures, reads_err _ c.closed.ensures c.in_err-items-2.ensures.stopped ne) refl)
 
 pub returns : goal.returns
 unfolding direct
-returns g c = rw (c.in_ok-brackets.ensures, c.in_ok-items.ensures, c.in_ok-close.ensures) refl
+returns g c = rw (c.in_ok-brackets.ensures, c.in_ok-items.ensures, reads_ok c.closed.ensures c.in_ok-items-2.ensures.ok.1, ← c.in_ok-items-2.ensures.ok.0) refl

@@ -1,6 +1,6 @@
 use Rattle.std.proofs.Common.{refl}
 use Rattle.sy_reading.specs.Stmts.{full}
-use Rattle.sy_pexpr.proofs.Exits.{err_exit}
+use Rattle.sy_cursor.proofs.StepLaws.{err_exit}
 use Rattle.sy_pexpr.proofs.statements.Statements.full.Goals as goal
 
 pub returns-in_err-found : goal.returns-in_err-found
