@@ -78,7 +78,12 @@ pub enum Thing {
     InOrder,
     /// `property::reduction::initialize_to_identity`.
     InitializeToIdentity,
-    /// What a call without a value has.
+    /// What fewer indexes give than an object has dimensions: the kind of its elements, its dimensions, how many
+    /// indexes are still wanted, and its mode.
+    Indexed(Kind, Dimensions, Dimensions, Mode),
+    /// What `data()` of a vector gives.
+    Data(Kind),
+    /// What a call without a value has, and the name of a function.
     Void,
 }
 
