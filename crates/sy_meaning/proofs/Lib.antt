@@ -1,0 +1,24 @@
+pub mod Trees
+mod Examples
+mod Scopes
+mod Groups
+mod Commands
+mod ClashLemmas
+mod ItemOrderLemmas
+mod LogLemmas
+mod TouchLemmas
+mod GroupOrderLemmas
+mod StopLemmas
+mod CaptureLemmas
+mod Whole
+mod Further
+mod OutcomeLemmas
+mod MakingLemmas
+mod RunLemmas
+mod StatementLemmas
+mod TreeLemmas
+mod BodyLemmas
+mod LoopLemmas
+mod TurnLemmas
+mod AskLemmas
+mod PhaseLemmas
