@@ -1,0 +1,5 @@
+pub mod Earlier
+pub mod Footprints
+pub mod Kept
+pub mod Sparse
+pub mod Summaries
