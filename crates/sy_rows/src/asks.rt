@@ -28,6 +28,8 @@ pub enum Does {
 #[derive(Clone, Copy)]
 pub enum Do {
     Print(&'static str),
+    /// A text of so many bytes.
+    PrintLong(u32),
     /// A buffer from a range of so many elements.
     Buffer(u64),
     /// A buffer over a vector.
@@ -43,10 +45,13 @@ pub enum Do {
     /// A command on a queue with its needs, behind the nodes that it names.
     Submit(u32, Does, &'static [Wanted], &'static [u32]),
     WaitNode(u32),
+    WaitQueue(u32),
     Throw(u32),
     Spawn(u32),
     Join(u32),
     Terminate(Why),
+    /// The run ends, as the thread has no turn left at this line.
+    SpendTurns(u32),
 }
 
 /// The answer that an ask wants.
@@ -137,6 +142,7 @@ fn submission(
 fn ask(alloc: Global, what: &Do) -> Result<Ask, AllocError> {
     match *what {
         Do::Print(text) => Ok(Ask::Print(Bytes::of(Vec::from_slice(alloc, text.as_bytes())?))),
+        Do::PrintLong(count) => Ok(Ask::Print(Bytes::of(vec![in alloc; b'x'; count as usize]?))),
         Do::Buffer(count) => buffer(alloc, count, None),
         Do::Over(numbers) => buffer(alloc, numbers.len() as u64, Some(numbers)),
         Do::Part(parent, base, count) => Ok(Ask::MakeSub(parent, base, Range::new(&[count]))),
@@ -151,10 +157,12 @@ fn ask(alloc: Global, what: &Do) -> Result<Ask, AllocError> {
         })),
         Do::Submit(queue, does, wanted, after) => submission(alloc, queue, does, wanted, after),
         Do::WaitNode(node) => Ok(Ask::WaitNode(node)),
+        Do::WaitQueue(queue) => Ok(Ask::WaitQueue(queue)),
         Do::Throw(queue) => Ok(Ask::ThrowQueue(queue)),
         Do::Spawn(body) => Ok(Ask::Spawn(body, Values::of(Vec::new(alloc)))),
         Do::Join(thread) => Ok(Ask::Join(thread)),
         Do::Terminate(why) => Ok(Ask::Halt(Halt::Terminated(why))),
+        Do::SpendTurns(line) => Ok(Ask::Halt(Halt::TurnsSpent(line))),
     }
 }
 

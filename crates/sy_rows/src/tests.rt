@@ -6,9 +6,8 @@ use std::alloc::{AllocError, Global};
 use std::process::Abort;
 use std::test::Fail;
 use sy_access::Mode;
-use sy_plain::End;
 use sy_scripted::{Script, TableRow};
-use sy_work::{Cause, Ending, Errc, Fault, KernelError, Why};
+use sy_work::{Cause, End, Ending, Errc, Fault, KernelError, Why};
 
 /// The script of each body, main's first, the kernels by their code numbers, and how the run comes
 /// out: its order as stretches of one thread's steps.
@@ -1434,4 +1433,259 @@ const THROW_WAITS: Row = Row {
 #[test]
 fn throw_waits(rt: HostRuntime) -> Result<(), Fail> {
     check(&rt, "a throw that is kept waiting", &THROW_WAITS)
+}
+
+const QUEUE_WAITS: Row = Row {
+    bodies: &[
+        &[&[
+            QUEUE,
+            (Do::Queue(1, false), Gets::Number(1)),
+            (Do::Buffer(1), Gets::Number(0)),
+            (Do::Spawn(1), Gets::Number(1)),
+            (Do::Spawn(2), Gets::Number(2)),
+            (Do::Join(2), Gets::Done),
+            (
+                Do::Submit(0, Does::Kernel(0), &[(0, Mode::Write, false, 0, 1)], &[]),
+                Gets::Number(0),
+            ),
+            (Do::WaitQueue(1), Gets::Done),
+            (Do::Print("a"), Gets::Done),
+            (Do::WaitQueue(0), Gets::Done),
+            (Do::Print("c"), Gets::Done),
+        ]],
+        &[&[
+            (
+                Do::Open((0, Mode::ReadWrite, false, 0, 1)),
+                Gets::Contents(&[0]),
+            ),
+            (Do::Join(2), Gets::Done),
+            (Do::Print("b"), Gets::Done),
+            (Do::Close(0, &[8]), Gets::Done),
+            (Do::Print("late"), Gets::Done),
+        ]],
+        &[],
+    ],
+    kernels: &[Outcomes::Writes(0, 0, &[9])],
+    ending: Ending::Returned(0),
+    order: &[(0, 6), (1, 2), (2, 1), (0, 4), (1, 2), (0, 2)],
+    output: "abc",
+    copies: 1,
+};
+
+#[test]
+fn queue_waits(rt: HostRuntime) -> Result<(), Fail> {
+    check(&rt, "a wait for a queue whose node waits", &QUEUE_WAITS)
+}
+
+const WAIT_FOR_EARLIER: Row = Row {
+    bodies: &[
+        &[&[
+            QUEUE,
+            (Do::Buffer(1), Gets::Number(0)),
+            (Do::Buffer(1), Gets::Number(1)),
+            (
+                Do::Open((0, Mode::ReadWrite, false, 0, 1)),
+                Gets::Contents(&[0]),
+            ),
+            (
+                Do::Open((1, Mode::ReadWrite, false, 0, 1)),
+                Gets::Contents(&[0]),
+            ),
+            (
+                Do::Submit(0, Does::Kernel(0), &[(0, Mode::Read, false, 0, 1)], &[]),
+                Gets::Number(0),
+            ),
+            (Do::Spawn(1), Gets::Number(1)),
+            (Do::Spawn(2), Gets::Number(2)),
+            (Do::Join(2), Gets::Done),
+            (
+                Do::Submit(0, Does::Kernel(0), &[(1, Mode::Read, false, 0, 1)], &[]),
+                Gets::Number(1),
+            ),
+            (Do::Close(0, &[8]), Gets::Done),
+            (Do::Join(1), Gets::Done),
+            (Do::WaitQueue(0), Gets::Any),
+            (Do::Print("no"), Gets::Done),
+        ]],
+        &[&[(Do::WaitQueue(0), Gets::Done), (Do::Print("a"), Gets::Done)]],
+        &[],
+    ],
+    kernels: &[Outcomes::Writes(0, 0, &[])],
+    ending: Ending::Stuck,
+    order: &[(0, 9), (1, 1), (2, 1), (0, 3), (1, 2), (0, 1)],
+    output: "a",
+    copies: 2,
+};
+
+#[test]
+fn wait_for_earlier(rt: HostRuntime) -> Result<(), Fail> {
+    check(&rt, "a wait for a queue's earlier nodes", &WAIT_FOR_EARLIER)
+}
+
+const TURNS_SPENT: Row = Row {
+    bodies: &[
+        &[&[
+            (Do::Spawn(1), Gets::Number(1)),
+            (Do::Print("x"), Gets::Done),
+            (Do::Join(1), Gets::Any),
+            (Do::Print("no"), Gets::Done),
+        ]],
+        &[&[
+            (Do::SpendTurns(6), Gets::Any),
+            (Do::Print("no"), Gets::Done),
+        ]],
+    ],
+    kernels: &[],
+    ending: Ending::TurnsSpent(1, 6),
+    order: &[(0, 3), (1, 1)],
+    output: "x",
+    copies: 0,
+};
+
+#[test]
+fn turns_spent(rt: HostRuntime) -> Result<(), Fail> {
+    check(&rt, "turns-spent", &TURNS_SPENT)
+}
+
+const OUTPUT_FULL: Row = Row {
+    bodies: &[&[&[
+        (Do::Print("x"), Gets::Done),
+        (Do::PrintLong(16777216), Gets::Any),
+        (Do::Print("no"), Gets::Done),
+    ]]],
+    kernels: &[],
+    ending: Ending::OutputFull,
+    order: &[(0, 2)],
+    output: "x",
+    copies: 0,
+};
+
+#[test]
+fn output_full(rt: HostRuntime) -> Result<(), Fail> {
+    check(&rt, "a print past 2^24 bytes", &OUTPUT_FULL)
+}
+
+const OUTPUT_WITHIN: &[&[Part]] = &[&[&[
+    (Do::PrintLong(16777215), Gets::Done),
+    (Do::Print("x"), Gets::Done),
+    (Do::Print(""), Gets::Done),
+    (Do::Print("x"), Gets::Any),
+]]];
+
+// The longest output is taken whole, and one byte more ends the run.
+#[test]
+fn output_within(rt: HostRuntime) -> Result<(), Fail> {
+    let alloc = rt.alloc();
+    let scripts = scripts(alloc, OUTPUT_WITHIN)?;
+    let end = play(alloc, scripts, Vec::new(alloc))?;
+    assert_eq!(rt; end.ending, Ending::OutputFull);
+    assert_eq!(rt; end.order.len(), 4);
+    assert_eq!(rt; end.output.items().len(), 16777216);
+    Ok(())
+}
+
+const NAMES_NOTHING: Row = Row {
+    bodies: &[
+        &[&[
+            (Do::Spawn(1), Gets::Number(1)),
+            (Do::Print("a"), Gets::Done),
+            (Do::End(0), Gets::Any),
+            (Do::Print("no"), Gets::Done),
+        ]],
+        &[&[
+            (Do::Print("b"), Gets::Done),
+            (Do::Join(5), Gets::Any),
+            (Do::Print("no"), Gets::Done),
+        ]],
+    ],
+    kernels: &[],
+    ending: Ending::Stuck,
+    order: &[(0, 3), (1, 2)],
+    output: "ab",
+    copies: 0,
+};
+
+#[test]
+fn names_nothing(rt: HostRuntime) -> Result<(), Fail> {
+    check(&rt, "an end of a buffer that isn't there", &NAMES_NOTHING)
+}
+
+const NEEDS_MEET: Row = Row {
+    bodies: &[&[&[
+        QUEUE,
+        (Do::Buffer(4), Gets::Number(0)),
+        (
+            Do::Submit(
+                0,
+                Does::Kernel(0),
+                &[(0, Mode::Write, false, 0, 4), (0, Mode::Read, false, 0, 4)],
+                &[],
+            ),
+            Gets::Any,
+        ),
+        (Do::Print("no"), Gets::Done),
+    ]]],
+    kernels: &[Outcomes::Writes(0, 0, &[1; 4])],
+    ending: Ending::Stuck,
+    order: &[(0, 3)],
+    output: "",
+    copies: 0,
+};
+
+#[test]
+fn needs_meet(rt: HostRuntime) -> Result<(), Fail> {
+    check(
+        &rt,
+        "a command that needs the same elements twice",
+        &NEEDS_MEET,
+    )
+}
+
+/// Two commands on queue 0, of which the first waits for a host access and the second needs
+/// another buffer, and then a host access to that buffer.
+const TWO_COMMANDS: Part = &[
+    (Do::Buffer(1), Gets::Number(0)),
+    (Do::Buffer(1), Gets::Number(1)),
+    (
+        Do::Open((0, Mode::ReadWrite, false, 0, 1)),
+        Gets::Contents(&[0]),
+    ),
+    (
+        Do::Submit(0, Does::Kernel(0), &[(0, Mode::Read, false, 0, 1)], &[]),
+        Gets::Number(0),
+    ),
+    (
+        Do::Submit(0, Does::Kernel(1), &[(1, Mode::Write, false, 0, 1)], &[]),
+        Gets::Number(1),
+    ),
+    (Do::Open((1, Mode::Read, false, 0, 1)), Gets::Contents(&[9])),
+    (Do::Print("9"), Gets::Done),
+];
+
+const IN_ORDER: Row = Row {
+    bodies: &[&[&[(Do::Queue(1, true), Gets::Number(0))], TWO_COMMANDS]],
+    kernels: &[Outcomes::Writes(0, 0, &[]), Outcomes::Writes(1, 0, &[9])],
+    ending: Ending::Stuck,
+    order: &[(0, 7)],
+    output: "",
+    copies: 2,
+};
+
+#[test]
+fn in_order(rt: HostRuntime) -> Result<(), Fail> {
+    check(&rt, "in_order alone", &IN_ORDER)
+}
+
+const IN_NO_ORDER: Row = Row {
+    bodies: &[&[&[QUEUE], TWO_COMMANDS, &[(Do::Close(0, &[8]), Gets::Done)]]],
+    kernels: &[Outcomes::Writes(0, 0, &[]), Outcomes::Writes(1, 0, &[9])],
+    ending: Ending::Returned(0),
+    order: &[(0, 10)],
+    output: "9",
+    copies: 2,
+};
+
+#[test]
+fn in_no_order(rt: HostRuntime) -> Result<(), Fail> {
+    check(&rt, "in_order left out", &IN_NO_ORDER)
 }

@@ -1,6 +1,7 @@
 -- A main that prints sums submits no command.
 use Rattle.std.proofs.Common.{◌≡◌, ℕ, ◌+◌, Bool, true, false, List, [], ◌∷◌, Option, Some, None, refl, ap, ◌∙◌}
-use Rattle.sy_onecopy.specs.State.{State}
+use Rattle.std.specs.Prelude.{slice_get}
+use Rattle.sy_onecopy.specs.State.{State, Thread, ask_by}
 use Rattle.sy_onecopy.specs.Step.{step}
 use Rattle.sy_sums.specs.declared.sums.Given.{Given}
 use Rattle.sy_sums.specs.declared.sums.Given.TheVariants.{Number}
@@ -18,10 +19,14 @@ submits_none : (v : Bool) (o : Option Operand) → is_submit (ask_here v o) ≡ 
 submits_none v None = refl
 submits_none v (Some o) = sum_submits_none v o.line o.given
 
+thread_submits_none : (turns : ℕ) (ops : List Operand) (o : Option Thread) → is_submit (ask_by (program_of turns ops).next o) ≡ 0
+thread_submits_none turns ops None = refl
+thread_submits_none turns ops (Some x) = submits_none _ _
+
 none_from : (turns : ℕ) (ops : List Operand) (s : State) (order : List ℕ) → submitted (program_of turns ops) s order ≡ 0
 none_from turns ops s [] = refl
 none_from turns ops s (t ∷ ts) =
-    ap (λ n. n + submitted (program_of turns ops) (step (program_of turns ops) s t) ts) (submits_none _ _)
+    ap (λ n. n + submitted (program_of turns ops) (step (program_of turns ops) s t) ts) (thread_submits_none turns ops (slice_get s.threads t))
     ∙ ap (λ n. 0 + n) (none_from turns ops (step (program_of turns ops) s t) ts)
 
 pub no_commands : (turns : ℕ) (ops : List Operand) (order : List ℕ) → commands (program_of turns ops) order ≡ 0

@@ -2,7 +2,7 @@
 use Rattle.std.proofs.Common.{◌≡◌, ℕ, List, Result, Ok, Err}
 use Rattle.std.specs.Prelude.{All, IfOk}
 use Rattle.sy_onecopy.specs.Sequence.{IsRun}
-use Rattle.sy_plain.specs.declared.run.End.{End}
+use Rattle.sy_work.specs.declared.endings.End.{End}
 use Rattle.sy_sums.specs.declared.sums.Operand.{Operand}
 use Rattle.sy_sums.specs.Commands.{commands}
 use Rattle.sy_sums.specs.Sums.{program_of}

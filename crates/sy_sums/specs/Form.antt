@@ -1,6 +1,6 @@
 -- A main that prints sums, and nothing else.
 --
---     unit  = INCLUDE* "int" "main" "(" ")" "{" (print ";")* "}"
+--     unit  = INCLUDE* int "main" "(" ")" "{" (print ";")* "}", where int is a type of the kind Int in whichever words
 --     print = "std" "::" "cout" ("<<" sum)+
 --     sum   = number | sum ("+" | "-") number
 use Rattle.std.specs.Prelude.{ℕ, zero, suc, Bool, true, false, ◌&&◌, nat_eq, if◌then◌else◌, List, [], ◌∷◌, length, slice_get, codes, Option, Some, None, option_map}
@@ -75,7 +75,7 @@ abbrev pub is_int : ReturnType → Bool
 is_int (returned.Void s) = false
 is_int (returned.Integer t) = is_int_kind t.kind
 
--- int main()
+-- int main(), or signed main() and the like: the kind decides
 unfoldable pub is_main : Function → Bool
 is_main f = is_int f.returned && (bytes_eq f.name.text (codes "main") && nat_eq (length f.parameters) 0)
 

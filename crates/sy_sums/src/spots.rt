@@ -63,11 +63,8 @@ fn node_spot(expr: &Expr) -> Spot
     ensures { result ≡ spec.node_spot expr.now }
 {
     match expr {
-        Expr::Integer(lexeme)
-        | Expr::Character(lexeme)
-        | Expr::Name(lexeme)
-        | Expr::Call(lexeme, _, _)
-        | Expr::MemberCall(_, lexeme, _, _, _) => lexeme.spot,
+        Expr::Integer(lexeme) | Expr::Character(lexeme) | Expr::Name(lexeme) => lexeme.spot,
+        Expr::Call(name, _, _) | Expr::MemberCall(_, name, _, _, _) => name.get().spot,
         Expr::Boolean(spot, _)
         | Expr::Parenthesized(spot, _, _)
         | Expr::StaticCast(spot, _, _, _)
@@ -79,7 +76,7 @@ fn node_spot(expr: &Expr) -> Spot
         | Expr::Binary(_, spot, _, _)
         | Expr::Conditional(_, spot, _, _) => *spot,
         Expr::FunctionalCast(of, _, _) => of.spot,
-        Expr::Construct(of, _, _, _, _) => object_spot(of),
+        Expr::Construct(of, _, _, _, _) => object_spot(of.get()),
         Expr::GroupBarrier(name, _, _)
         | Expr::AccessTag(name, _)
         | Expr::InOrder(name, _, _)

@@ -34,6 +34,7 @@ module _ (set : Settings) (bytes : List ℕ) (serial : set.job ≡ Serial) where
       accepted = subst (λ j. Runs set j bytes (sums_program set.turns unit)) (sym serial) (record { unit = unit; source = source; built = built; means = refl });
       only = λ q r. let a = accepted q r in a.means ∙ ap (sums_program set.turns) (only a.unit a.source);
       run = run.run;
+      serial = run.serial;
       main_alone = run.main_alone;
       line = run.line;
       tail = run.tail;

@@ -1,14 +1,15 @@
 -- What a run of the program promises.
-use Rattle.std.specs.Prelude.{◌≡◌, ℕ, ◌<◌, ◌≤◌, List, [], length, Option, IfSome, All, Result, Ok, Err, ⊤}
+use Rattle.std.specs.Prelude.{◌≡◌, ℕ, ◌+◌, ◌<◌, ◌≤◌, Bool, true, false, List, [], length, Option, IfSome, All, Result, Ok, Err}
 use Rattle.std.specs.Io.KnownBytes.{Appends, Keeps}
 use Rattle.sy_io.specs.Faults.{Rose}
-use Rattle.sy_io.specs.Known.{AppendsFront}
+use Rattle.sy_io.specs.Known.{AppendsFront, ConsumesExactly}
 use Rattle.sy_note.specs.declared.Code.TheVariants.{NotBuilt}
 use Rattle.sy_note.specs.declared.Diagnostic.{Diagnostic}
 use Rattle.sy_work.specs.declared.endings.Ending.{Ending}
 use Rattle.sy_work.specs.declared.endings.Ending.TheVariants as ending
 use Rattle.sy_work.specs.Programs.{Program}
-use Rattle.sy_onecopy.specs.Sequence.{IsRun}
+use Rattle.sy_onecopy.specs.State.{start}
+use Rattle.sy_onecopy.specs.Sequence.{IsRun, IsSerial}
 use Rattle.sy_top.specs.declared.jobs.Job.{Job}
 use Rattle.sy_top.specs.declared.jobs.Job.TheVariants.{Check, Serial, Run as JobRun, SelfTest, Replay}
 use Rattle.sy_top.specs.declared.jobs.Settings.{Settings}
@@ -38,46 +39,64 @@ source_limit = 1048576
 
 -- ---- what a call finds and leaves outside
 
+-- a source or a sink: the bytes that were left of it or taken by it before the call, those by the call's end, where it
+-- tells them, and how many faults it counted before the call and by its end
+pub record Stream : Type 0 where
+  pub before : Option (List ℕ)
+  pub now : Option (List ℕ)
+  pub faults_before : ℕ
+  pub faults_now : ℕ
+
+abbrev pub stream : Option (List ℕ) → Option (List ℕ) → ℕ → ℕ → Stream
+stream before now faults_before faults_now = record { before = before; now = now; faults_before = faults_before; faults_now = faults_now }
+
+-- it counted no fault in the call
+abbrev pub IsFaultless : Stream → Type 0
+IsFaultless s = s.faults_now ≡ s.faults_before
+
+-- it counted one fault in the call
+abbrev pub HasFault : Stream → Type 0
+HasFault s = Rose s.faults_before s.faults_now
+
 pub record Outside : Type 0 where
-  -- the bytes that were left of the source, where it tells them, and those that are left now
-  pub left : Option (List ℕ)
-  pub left_now : Option (List ℕ)
-  -- how many faults the source counted before the call, and by its end
-  pub source_before : ℕ
-  pub source_after : ℕ
-  -- the bytes that standard output had taken, where it tells them, and its faults
-  pub out_old : Option (List ℕ)
-  pub out_new : Option (List ℕ)
-  pub out_before : ℕ
-  pub out_after : ℕ
-  -- those of standard error
-  pub err_old : Option (List ℕ)
-  pub err_new : Option (List ℕ)
-  pub err_before : ℕ
-  pub err_after : ℕ
+  pub source : Stream
+  -- standard output and standard error
+  pub out : Stream
+  pub err : Stream
+
+abbrev pub outside : Stream → Stream → Stream → Outside
+outside source out err = record { source = source; out = out; err = err }
 
 -- what a sink was told, by what is noted of it
-abbrev pub Tells : Option (List ℕ) → Option (List ℕ) → ℕ → ℕ → List ℕ → Note → Type 0
-Tells old new before after text note.Nothing = (text ≡ []) × Keeps old new × (after ≡ before)
-Tells old new before after text note.Written = (0 < length text) × Appends old new text × (after ≡ before)
-Tells old new before after text note.Failed = AppendsFront old new text × Rose before after
-
--- standard error was told this text
-abbrev pub Told : Outside → Note → List ℕ → Type 0
-Told o n text = Tells o.err_old o.err_new o.err_before o.err_after text n
+abbrev pub Tells : Stream → List ℕ → Note → Type 0
+Tells s text note.Nothing = (text ≡ []) × Keeps s.before s.now × IsFaultless s
+Tells s text note.Written = (0 < length text) × Appends s.before s.now text × IsFaultless s
+Tells s text note.Failed = AppendsFront s.before s.now text × HasFault s
 
 -- nothing was run and nothing was written but the line of the answer
 pub record Untouched (o : Outside) (run : Run) : Type 0 where
   pub no_order : run.order.items ≡ []
   pub no_copies : run.copies ≡ 0
-  pub no_bytes : Keeps o.out_old o.out_new
-  pub no_fault : o.out_after ≡ o.out_before
-  pub told : Told o run.note (line_of run.ended)
+  pub no_bytes : Keeps o.out.before o.out.now
+  pub no_fault : IsFaultless o.out
+  pub told : Tells o.err (line_of run.ended) run.note
 
 -- the source was not read
-pub record Unread (o : Outside) : Type 0 where
-  pub same : Keeps o.left o.left_now
-  pub no_fault : o.source_after ≡ o.source_before
+pub record Unread (source : Stream) : Type 0 where
+  pub same : Keeps source.before source.now
+  pub no_fault : IsFaultless source
+
+-- the source was read to its end, and gave these bytes and no fault
+pub record IsRead (source : Stream) (bytes : List ℕ) : Type 0 where
+  pub whole : IfSome source.before (λ left. bytes ≡ left)
+  pub within : length bytes ≤ source_limit
+  pub no_fault : IsFaultless source
+
+-- one byte more than the limit was read of the source, with no fault before it
+pub record IsTooLong (source : Stream) : Type 0 where
+  pub more : IfSome source.before (λ left. source_limit < length left)
+  pub taken : ConsumesExactly source.before source.now (source_limit + 1)
+  pub no_fault : IsFaultless source
 
 -- ---- runs
 
@@ -85,22 +104,23 @@ pub record Unread (o : Outside) : Type 0 where
 -- steps of the order, in which the least thread that may step makes each, and ends so, with this output.
 pub record IsRunOf (o : Outside) (set : Settings) (p : Program) (run : Run) (end : Ending) (output : List ℕ) : Type 0 where
   pub bytes : List ℕ
-  pub whole : IfSome o.left (λ left. bytes ≡ left)
-  pub within : length bytes ≤ source_limit
+  pub read : IsRead o.source bytes
   pub accepted : Runs set set.job bytes p
   pub only : (q : Program) → Runs set set.job bytes q → q ≡ p
   pub makes : IsRun p run.order.items end output run.copies
+  pub serial : IsSerial p (start p) run.order.items
   -- there is one thread
   pub main_alone : All (λ t. t ≡ 0) run.order.items
   -- the line of the answer, and what the settings want to be told of the run
-  pub told : Told o run.note (note_of set run.ended run.order.items (commands p run.order.items) run.copies)
+  pub told : Tells o.err (note_of set run.ended run.order.items (commands p run.order.items) run.copies) run.note
 
--- the headline: what was written is the output of that run, whose ending is the answer's
+-- the headline: what was written is the output of that run, whose ending is the answer's, and no fault was met
 pub record Ran (o : Outside) (set : Settings) (run : Run) (end : Ending) : Type 0 where
   pub program : Program
   pub output : List ℕ
   pub is_run : IsRunOf o set program run end output
-  pub written : Appends o.out_old o.out_new output
+  pub written : Appends o.out.before o.out.now output
+  pub no_fault : IsFaultless o.out
 
 -- writing met a fault, and took a part of the output from its front
 pub record Broke (o : Outside) (set : Settings) (run : Run) : Type 0 where
@@ -108,8 +128,8 @@ pub record Broke (o : Outside) (set : Settings) (run : Run) : Type 0 where
   pub end : Ending
   pub output : List ℕ
   pub is_run : IsRunOf o set program run end output
-  pub written : AppendsFront o.out_old o.out_new output
-  pub fault : Rose o.out_before o.out_after
+  pub written : AppendsFront o.out.before o.out.now output
+  pub fault : HasFault o.out
 
 -- the diagnostic of a job that is not built
 abbrev pub not_built : Diagnostic
@@ -123,8 +143,7 @@ Rejects job bytes d = d ≡ not_built
 -- the source was read to its end, and no program is accepted with it
 pub record Refuses (o : Outside) (set : Settings) (run : Run) (d : Diagnostic) : Type 0 where
   pub bytes : List ℕ
-  pub whole : IfSome o.left (λ left. bytes ≡ left)
-  pub within : length bytes ≤ source_limit
+  pub read : IsRead o.source bytes
   pub why : Rejects set.job bytes d
   pub refused : (p : Program) → Runs set set.job bytes p → ⊥
   pub untouched : Untouched o run
@@ -140,10 +159,10 @@ Cause o set run ended.Stuck = Ran o set run ending.Stuck
 Cause o set run ended.OutputFull = Ran o set run ending.OutputFull
 Cause o set run ended.HistoryFull = Ran o set run ending.HistoryFull
 Cause o set run (ended.Refused d) = Refuses o set run d
-Cause o set run ended.SourceTooLong = IfSome o.left (λ bytes. source_limit < length bytes) × Untouched o run
-Cause o set run ended.ReadFault = Rose o.source_before o.source_after × Untouched o run
+Cause o set run ended.SourceTooLong = IsTooLong o.source × Untouched o run
+Cause o set run ended.ReadFault = HasFault o.source × Untouched o run
 Cause o set run ended.WriteFault = Broke o set run
-Cause o set run ended.Memory = Untouched o run
+Cause o set run ended.Memory = IsFaultless o.source × Untouched o run
 -- these answers never come of a job that is built
 Cause o set run ended.BadWords = ⊥
 Cause o set run ended.Checked = ⊥
@@ -160,7 +179,7 @@ HasCause o set run = Cause o set run run.ended
 pub record Answered (o : Outside) (run : Run) (end : Ended) : Type 0 where
   pub ended : run.ended ≡ end
   pub untouched : Untouched o run
-  pub unread : Unread o
+  pub unread : Unread o.source
 
 -- the self test has a source of its own, and is not built
 abbrev pub AnswersJob : Job → Outside → Settings → Run → Type 0
@@ -172,10 +191,10 @@ abbrev pub Answers : Result Settings BadWords → Outside → Run → Type 0
 Answers (Ok set) o run = AnswersJob set.job o set run
 Answers (Err e) o run = Answered o run ended.BadWords
 
--- the jobs that wait for nobody
-abbrev pub IsPlain : Job → Type 0
-IsPlain Check = ⊤
-IsPlain Serial = ⊤
-IsPlain Replay = ⊤
-IsPlain JobRun = ⊥
-IsPlain SelfTest = ⊥
+-- the job waits for nobody
+abbrev pub is_plain : Job → Bool
+is_plain Check = true
+is_plain Serial = true
+is_plain Replay = true
+is_plain JobRun = false
+is_plain SelfTest = false

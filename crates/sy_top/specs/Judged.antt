@@ -1,7 +1,6 @@
 -- What is known of a source before its output is written.
 use Rattle.std.specs.Prelude.{◌≡◌, ℕ, Bool, true, false, List, Option, Some, None, All}
 use Rattle.std.specs.Io.KnownBytes.{Appends}
-use Rattle.sy_io.specs.Faults.{Rose}
 use Rattle.sy_io.specs.Known.{AppendsFront}
 use Rattle.sy_work.specs.declared.endings.Ending.{Ending}
 use Rattle.sy_io.specs.declared.ReadStop.{ReadStop}
@@ -9,7 +8,8 @@ use Rattle.sy_io.specs.declared.ReadStop.TheVariants.{TooLong, Fault, Memory}
 use Rattle.sy_note.specs.declared.Code.TheVariants.{NotBuilt}
 use Rattle.sy_note.specs.declared.Diagnostic.{Diagnostic}
 use Rattle.sy_work.specs.Programs.{Program}
-use Rattle.sy_onecopy.specs.Sequence.{IsRun}
+use Rattle.sy_onecopy.specs.State.{start}
+use Rattle.sy_onecopy.specs.Sequence.{IsRun, IsSerial}
 use Rattle.sy_top.specs.declared.call.Judged.{Judged}
 use Rattle.sy_top.specs.declared.call.Judged.TheVariants.{Ran, Refused}
 use Rattle.sy_top.specs.declared.call.Ready.{Ready}
@@ -22,7 +22,7 @@ use Rattle.sy_sums.specs.Commands.{commands}
 use Rattle.sy_sums.specs.Form.{first_unbuilt}
 use Rattle.sy_sums.specs.Sums.{sums_program}
 use Rattle.sy_tree.specs.declared.tree.Unit.{Unit as SourceUnit}
-use Rattle.sy_top.specs.Headline.{Runs, Rejects}
+use Rattle.sy_top.specs.Headline.{Runs, Rejects, Stream, IsFaultless, HasFault}
 use Rattle.sy_top.specs.Notes.{line_of, tail_of, ended_by}
 
 -- the source is accepted, and this is its run
@@ -31,6 +31,7 @@ pub record IsReady (set : Settings) (bytes : List ℕ) (ready : Ready) : Type 0 
   pub accepted : Runs set set.job bytes program
   pub only : (q : Program) → Runs set set.job bytes q → q ≡ program
   pub run : IsRun program ready.order.items ready.ending ready.output ready.copies
+  pub serial : IsSerial program (start program) ready.order.items
   pub main_alone : All (λ t. t ≡ 0) ready.order.items
   pub line : ready.line.items ≡ line_of (ended_by ready.ending)
   pub tail : ready.tail.items ≡ tail_of set ready.order.items (commands program ready.order.items) ready.copies
@@ -43,6 +44,7 @@ IsRefusal d (Refused e note) = (e ≡ d) × (note.items ≡ line_of (ended.Refus
 -- this is the run of this tree
 pub record IsRunOfTree (set : Settings) (unit : SourceUnit) (ready : Ready) : Type 0 where
   pub run : IsRun (sums_program set.turns unit) ready.order.items ready.ending ready.output ready.copies
+  pub serial : IsSerial (sums_program set.turns unit) (start (sums_program set.turns unit)) ready.order.items
   pub main_alone : All (λ t. t ≡ 0) ready.order.items
   pub line : ready.line.items ≡ line_of (ended_by ready.ending)
   pub tail : ready.tail.items ≡ tail_of set ready.order.items (commands (sums_program set.turns unit) ready.order.items) ready.copies
@@ -62,10 +64,10 @@ ended_by_stop TooLong = ended.SourceTooLong
 ended_by_stop Fault = ended.ReadFault
 ended_by_stop Memory = ended.Memory
 
--- the output was written whole, or a part of it from its front
-abbrev pub Writes : Option (List ℕ) → Option (List ℕ) → ℕ → ℕ → Ending → List ℕ → Ended → Type 0
-Writes old new before after end output ended.WriteFault = AppendsFront old new output × Rose before after
-Writes old new before after end output answer = (answer ≡ ended_by end) × Appends old new output
+-- the output was written whole, or a fault was met and a part of it is written, from its front
+abbrev pub Writes : Stream → Ending → List ℕ → Ended → Type 0
+Writes s end output ended.WriteFault = AppendsFront s.before s.now output × HasFault s
+Writes s end output answer = (answer ≡ ended_by end) × Appends s.before s.now output × IsFaultless s
 
 -- ---- what is noted of standard error
 

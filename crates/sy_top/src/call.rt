@@ -1,7 +1,7 @@
 // The steps of a call: a source is read, judged and run, and then its output and its note are written.
 
 ghost use Rattle.std.specs.Prelude.{◌≡◌, ◌≤◌, [], ◌++◌, length, IfOk};
-ghost use Rattle.sy_top.specs.Headline.{Tells, not_built};
+ghost use Rattle.sy_top.specs.Headline.{Tells, not_built, stream};
 ghost use Rattle.sy_top.specs.Judged.{Judges, JudgesTree, IsRefusal, IsRunOfTree, ended_by_stop, is_failed, joined};
 ghost use Rattle.sy_top.specs.Notes.{line_of};
 ghost use Rattle.sy_top.specs.declared.jobs.Job.TheVariants.{Serial};
@@ -16,10 +16,9 @@ use std::alloc::{AllocError, Global};
 use sy_access::Bytes;
 use sy_io::{ReadStop, Sink, write_all};
 use sy_note::{Code, Diagnostic, FrontStop, Spot};
-use sy_plain::End;
 use sy_sums::{first_unbuilt, run_sums};
 use sy_tree::Unit;
-use sy_work::Ending;
+use sy_work::{End, Ending};
 
 /// A run that is over, before its output is written.
 #[derive(Drop)]
@@ -187,7 +186,7 @@ impl Note {
 
 /// Tells standard error a text.
 pub fn tell<E: Sink>(err: &mut E, text: &[u8]) -> Note
-    ensures { Tells (E.taken err.old) (E.taken err.new) (E.faults err.old) (E.faults err.new) text.now result }
+    ensures { Tells (stream (E.taken err.old) (E.taken err.new) (E.faults err.old) (E.faults err.new)) text.now result }
 {
     if text.is_empty() {
         return Note::Nothing;
@@ -200,7 +199,7 @@ pub fn tell<E: Sink>(err: &mut E, text: &[u8]) -> Note
 
 /// Tells standard error two texts, one after the other.
 pub fn tell_both<E: Sink>(err: &mut E, first: &[u8], second: &[u8]) -> Note
-    ensures { Tells (E.taken err.old) (E.taken err.new) (E.faults err.old) (E.faults err.new) (first.now ++ second.now) result }
+    ensures { Tells (stream (E.taken err.old) (E.taken err.new) (E.faults err.old) (E.faults err.new)) (first.now ++ second.now) result }
 {
     let note = tell(err, first);
     if note.is_failed() {

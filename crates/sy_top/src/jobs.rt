@@ -1,5 +1,8 @@
 // What the program is told to do.
 
+ghost use Rattle.std.specs.Prelude.{◌≡◌};
+ghost use Rattle.sy_top.specs.Headline as spec;
+
 /// What the program is to do. Of these only [`Job::Serial`] is built so far.
 #[derive(Clone, Copy, PartialEq, Eq, Debug)]
 pub enum Job {
@@ -8,6 +11,18 @@ pub enum Job {
     Run,
     SelfTest,
     Replay,
+}
+
+impl Job {
+    /// Whether it waits for nobody.
+    pub fn is_plain(self) -> bool
+        ensures { result ≡ spec.is_plain self }
+    {
+        match self {
+            Job::Check | Job::Serial | Job::Replay => true,
+            Job::Run | Job::SelfTest => false,
+        }
+    }
 }
 
 /// What the words say: the job, and the number or the switch of each option.

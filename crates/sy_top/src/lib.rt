@@ -4,10 +4,8 @@
 //! form that is built so far is a main that prints sums.
 #![tactic(auto)]
 
-ghost use Rattle.std.specs.Prelude.{◌≡◌, ◌≢◌, ◌≤◌, ◌<◌, ℕ, [], ◌++◌, length, map, string_bytes, replicate, IfOk, MatchResult, MatchOption};
-ghost use Rattle.std.specs.Io.KnownBytes.{Keeps};
-ghost use Rattle.sy_note.specs.declared.Diagnostic.{Diagnostic};
-ghost use Rattle.sy_top.specs.Headline.{Answers, HasCause, IsPlain, Outside, Tells};
+ghost use Rattle.std.specs.Prelude.{◌≡◌, IsTrue, ◌++◌, map, string_bytes};
+ghost use Rattle.sy_top.specs.Headline.{Answers, AnswersJob, HasCause, Tells, is_plain, outside, stream};
 ghost use Rattle.sy_top.specs.Judged.{Writes};
 ghost use Rattle.sy_top.specs.Notes.{ended_by, line_of};
 ghost use Rattle.sy_top.specs.Words.{words_of};
@@ -32,17 +30,18 @@ use std::sync::Wait;
 use std::thread::Threads;
 use sy_io::{ReadStop, Sink, Source, read_all, write_all};
 use sy_work::Gate;
+pub use trace::lines_are_longest;
 pub use words::{BadWords, settings};
 
 const SOURCE_LIMIT: usize = 1_048_576;
 
 /// Writes the output of a run, and its note.
 fn write_run<O: Sink, E: Sink>(alloc: Global, ready: Ready, out: &mut O, err: &mut E) -> Run
-    ensures written { Writes (O.taken out.old) (O.taken out.new) (O.faults out.old) (O.faults out.new) ready.ending ready.output result.ended }
+    ensures written { Writes (stream (O.taken out.old) (O.taken out.new) (O.faults out.old) (O.faults out.new)) ready.ending ready.output result.ended }
     ensures order { result.order.items ≡ ready.order.items }
     ensures copies { result.copies ≡ ready.copies }
     ensures note { ready.line.items ≡ line_of (ended_by ready.ending)
-        → Tells (E.taken err.old) (E.taken err.new) (E.faults err.old) (E.faults err.new) (line_of result.ended ++ ready.tail.items) result.note }
+        → Tells (stream (E.taken err.old) (E.taken err.new) (E.faults err.old) (E.faults err.new)) (line_of result.ended ++ ready.tail.items) result.note }
 {
     let Ready {
         ending,
@@ -82,20 +81,10 @@ fn read_and_run<S: Source, O: Sink, E: Sink>(
     out: &mut O,
     err: &mut E,
 ) -> Run
-    ensures cause { HasCause (record {
-      left = S.left source.old;
-      left_now = S.left source.new;
-      source_before = S.faults source.old;
-      source_after = S.faults source.new;
-      out_old = O.taken out.old;
-      out_new = O.taken out.new;
-      out_before = O.faults out.old;
-      out_after = O.faults out.new;
-      err_old = E.taken err.old;
-      err_new = E.taken err.new;
-      err_before = E.faults err.old;
-      err_after = E.faults err.new;
-    }) set.now result }
+    ensures cause { HasCause (outside
+        (stream (S.left source.old) (S.left source.new) (S.faults source.old) (S.faults source.new))
+        (stream (O.taken out.old) (O.taken out.new) (O.faults out.old) (O.faults out.new))
+        (stream (E.taken err.old) (E.taken err.new) (E.faults err.old) (E.faults err.new))) set.now result }
 {
     let bytes = match read_all(alloc, source, SOURCE_LIMIT) {
         Ok(bytes) => bytes,
@@ -125,23 +114,38 @@ pub fn plain_top<S: Source, O: Sink, E: Sink>(
     out: &mut O,
     err: &mut E,
 ) -> Run
-    requires { IsPlain set.now.job }
-    ensures cause { HasCause (record {
-      left = S.left source.old;
-      left_now = S.left source.new;
-      source_before = S.faults source.old;
-      source_after = S.faults source.new;
-      out_old = O.taken out.old;
-      out_new = O.taken out.new;
-      out_before = O.faults out.old;
-      out_after = O.faults out.new;
-      err_old = E.taken err.old;
-      err_new = E.taken err.new;
-      err_before = E.faults err.old;
-      err_after = E.faults err.new;
-    }) set.now result }
+    requires { IsTrue (is_plain set.now.job) }
+    ensures cause { HasCause (outside
+        (stream (S.left source.old) (S.left source.new) (S.faults source.old) (S.faults source.new))
+        (stream (O.taken out.old) (O.taken out.new) (O.faults out.old) (O.faults out.new))
+        (stream (E.taken err.old) (E.taken err.new) (E.faults err.old) (E.faults err.new))) set.now result }
 {
     read_and_run(alloc, set, source, out, err)
+}
+
+/// Does the job that the words name.
+fn do_job<S: Source, O: Sink, E: Sink>(
+    alloc: Global,
+    set: &Settings,
+    source: &mut S,
+    out: &mut O,
+    err: &mut E,
+) -> Run
+    ensures answer { AnswersJob set.now.job (outside
+        (stream (S.left source.old) (S.left source.new) (S.faults source.old) (S.faults source.new))
+        (stream (O.taken out.old) (O.taken out.new) (O.faults out.old) (O.faults out.new))
+        (stream (E.taken err.old) (E.taken err.new) (E.faults err.old) (E.faults err.new))) set.now result }
+{
+    if set.job.is_plain() {
+        return plain_top(alloc, set, source, out, err);
+    }
+    match set.job {
+        Job::SelfTest => {
+            let note = tell(err, not_built_line());
+            without_run(alloc, Ended::Refused(NOT_BUILT), note)
+        }
+        _ => read_and_run(alloc, set, source, out, err),
+    }
 }
 
 /// Does all that the program does with these words.
@@ -154,31 +158,15 @@ pub fn syclrun_top<T: Threads + Wait + Sync, S: Source, O: Sink, E: Sink, G: Gat
     err: &mut E,
     gate: &G,
 ) -> Run
-    ensures answer { Answers (words_of (map string_bytes words.now)) (record {
-      left = S.left source.old;
-      left_now = S.left source.new;
-      source_before = S.faults source.old;
-      source_after = S.faults source.new;
-      out_old = O.taken out.old;
-      out_new = O.taken out.new;
-      out_before = O.faults out.old;
-      out_after = O.faults out.new;
-      err_old = E.taken err.old;
-      err_new = E.taken err.new;
-      err_before = E.faults err.old;
-      err_after = E.faults err.new;
-    }) result }
+    ensures answer { Answers (words_of (map string_bytes words.now)) (outside
+        (stream (S.left source.old) (S.left source.new) (S.faults source.old) (S.faults source.new))
+        (stream (O.taken out.old) (O.taken out.new) (O.faults out.old) (O.faults out.new))
+        (stream (E.taken err.old) (E.taken err.new) (E.faults err.old) (E.faults err.new))) result }
 {
     let _ = rt;
     let _ = gate;
     match settings(words) {
-        Ok(set) => match set.job {
-            Job::SelfTest => {
-                let note = tell(err, not_built_line());
-                without_run(alloc, Ended::Refused(NOT_BUILT), note)
-            }
-            _ => read_and_run(alloc, &set, source, out, err),
-        },
+        Ok(set) => do_job(alloc, &set, source, out, err),
         Err(_) => {
             let note = tell(err, bad_words_line());
             without_run(alloc, Ended::BadWords, note)

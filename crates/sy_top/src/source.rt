@@ -19,7 +19,7 @@ pub fn tree_of(alloc: Global, bytes: &[u8]) -> Result<Unit, FrontStop>
     ensures refused { (d : Diagnostic) → IsErrOf result (FrontStop.Refused d) → IsNoSource bytes.now d }
 {
     match tokens(alloc, bytes) {
-        Ok(toks) => parse(alloc, bytes, toks.as_slice()),
+        Ok(toks) => parse(alloc, bytes, toks),
         Err(stop) => Err(stop),
     }
 }

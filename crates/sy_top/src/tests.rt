@@ -65,7 +65,7 @@ const NOT_BUILT: Ended = Ended::Refused(Diagnostic {
 // Each source with its ending, its steps and its output.
 #[test]
 fn runs(rt: HostRuntime) -> Result<(), Fail> {
-    let cases: [(&[u8], Ended, usize, &[u8]); 14] = [
+    let cases: [(&[u8], Ended, usize, &[u8]); 15] = [
         // empty-main, sums, sum-overflows
         (b"int main(){}", Ended::Returned(0), 1, b""),
         (
@@ -111,6 +111,13 @@ fn runs(rt: HostRuntime) -> Result<(), Fail> {
             overflow(3),
             2,
             b"1",
+        ),
+        // the kind of main decides, not its words
+        (
+            b"signed main(){ std::cout << 5; }",
+            Ended::Returned(0),
+            2,
+            b"5",
         ),
         // blanks, comments and includes
         (
@@ -173,7 +180,7 @@ fn refused(code: Code, column: u32) -> Ended {
 // Sources of one line, each with the rule that refuses it and the column.
 #[test]
 fn refuses(rt: HostRuntime) -> Result<(), Fail> {
-    let cases: [(&[u8], Code, u32); 33] = [
+    let cases: [(&[u8], Code, u32); 34] = [
         // no-text
         (b"", Code::Grammar, 1),
         (b"int main(){ std::cout << \"ab", Code::Lexical, 26),
@@ -217,6 +224,7 @@ fn refuses(rt: HostRuntime) -> Result<(), Fail> {
             31,
         ),
         (b"int main(int n){ std::cout << 1; }", Code::NotBuilt, 1),
+        (b"unsigned main(){ std::cout << 1; }", Code::NotBuilt, 1),
         (
             b"int main(){ std::cout << 1; } int f(){}",
             Code::NotBuilt,

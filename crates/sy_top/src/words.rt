@@ -6,9 +6,11 @@ ghost use Rattle.std.specs.Str.{bytes_eq};
 ghost use Rattle.sy_top.specs.Words as spec;
 
 use crate::jobs::{Job, Settings};
+use thiserror::Error;
 
 /// The words are none that the program takes.
-#[derive(Clone, Copy, PartialEq, Eq, Debug)]
+#[derive(Clone, Copy, PartialEq, Eq, Debug, Error)]
+#[error("no words that the program takes")]
 pub struct BadWords;
 
 /// An option that a number goes with.

@@ -143,5 +143,9 @@ fn words(rt: HostRuntime) -> Result<(), Fail> {
         assert_eq!(rt; said(alloc, line)?, Err(BadWords), "{}", line);
     }
     assert_eq!(rt; settings(&[]), Err(BadWords));
+    assert_eq!(rt;
+        format!(in alloc; "{BadWords}")?.as_str(),
+        "no words that the program takes"
+    );
     Ok(())
 }

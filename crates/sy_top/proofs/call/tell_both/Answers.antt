@@ -5,5 +5,5 @@ use Rattle.sy_top.proofs.call.tell_both.Goals as goal
 
 pub returns : goal.returns
 returns c k =
-    subst (Tells _ _ _ _ _) (sym k.joined.ensures)
+    subst (Tells _ _) (sym k.joined.ensures)
     (both _ _ _ _ _ _ k.args.first.now k.args.second.now k.tell-note.result k.tell.result (sym k.is_failed.ensures ∙ k.if-is_failed.false) k.tell-note.ensures k.tell.ensures)

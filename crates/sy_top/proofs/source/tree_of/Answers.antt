@@ -1,19 +1,14 @@
-use Rattle.std.proofs.Common.{sym, subst}
-use Rattle.sy_lex.specs.Tokens.{HasTokens, IsOnly}
 use Rattle.sy_note.specs.declared.FrontStop.TheVariants as FrontStop
 use Rattle.sy_top.proofs.Trees.{another, one_tree, no_tree, no_tokens}
 use Rattle.sy_top.proofs.source.tree_of.Goals as goal
 
 pub returns-in-Ok-clause-only : goal.returns-in-Ok-clause-only
-returns-in-Ok-clause-only c =
-    let same = sym c.as_slice.ensures.value in
-    one_tree c.args.bytes.now c.as_slice.result.now (subst (HasTokens c.args.bytes.now) same c.in-Ok.ensures.found) (subst (IsOnly c.args.bytes.now) same c.in-Ok.ensures.only) c.parse.result c.parse.ensures.only
+returns-in-Ok-clause-only c = one_tree c.args.bytes.now c.in-Ok.toks.items c.in-Ok.ensures.found c.in-Ok.ensures.only c.parse.result c.parse.ensures.only
 
 pub returns-in-Ok-clause-refused : goal.returns-in-Ok-clause-refused
 returns-in-Ok-clause-refused c = λ d e.
-    let same = sym c.as_slice.ensures.value in
     let refused = c.parse.ensures.refused d e in
-    no_tree c.args.bytes.now c.as_slice.result.now (subst (HasTokens c.args.bytes.now) same c.in-Ok.ensures.found) (subst (IsOnly c.args.bytes.now) same c.in-Ok.ensures.only) d refused.0 refused.1
+    no_tree c.args.bytes.now c.in-Ok.toks.items c.in-Ok.ensures.found c.in-Ok.ensures.only d refused.0 refused.1
 
 pub returns-in-Err-clause-refused : goal.returns-in-Err-clause-refused
 returns-in-Err-clause-refused c = λ d e.
