@@ -13,6 +13,17 @@ kept f c = entry_at f.entries c
 abbrev pub room : Footprint → ℕ
 room f = cell_count f.entries
 
+-- the turn of the item that runs, and the turn at which the phase began
+abbrev pub turn_of : Footprint → ℕ
+turn_of f = f.turn
+
+abbrev pub phase_start : Footprint → ℕ
+phase_start f = f.start
+
+-- the cells that the group wrote, in the order of their first writes
+abbrev pub written_by : Footprint → List ℕ
+written_by f = f.written.items
+
 -- a touch at that turn was by an earlier item of the phase
 abbrev pub is_earlier : Footprint → ℕ → Bool
 is_earlier f turn = nat_le f.start turn && nat_lt turn f.turn

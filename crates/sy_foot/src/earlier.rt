@@ -27,13 +27,13 @@ pub struct EarlierGroups {
 }
 
 impl EarlierGroups {
-    ghost use Rattle.sy_foot.specs.Summaries.{meets_at, state_at};
+    ghost use Rattle.sy_foot.specs.Summaries.{meets_at, state_at, states_of};
     ghost use Rattle.sy_foot.specs.Earlier.{state_after};
     ghost use Rattle.sy_foot.specs.Footprints.{kept};
 
     /// No group yet, over the cells below `shared`.
     pub fn new(alloc: Global, shared: usize) -> Result<EarlierGroups, AllocError>
-        ensures shared { IfOk result (λ g. length g.states.items ≡ shared) }
+        ensures shared { IfOk result (λ g. length (states_of g) ≡ shared) }
         ensures untouched { IfOk result (λ g. (c : ℕ) → c < shared → state_at g c ≡ Some Untouched) }
     {
         Ok(EarlierGroups {
@@ -52,7 +52,7 @@ impl EarlierGroups {
     /// Whether no cell of the group meets the earlier ones, which it then joins.
     pub fn absorb(&mut self, group: &Footprint) -> bool
         ensures clash { result ≡ false → (c : ℕ) × (e : Entry) × (kept group.now c ≡ Some e) × (meets_at self.old c e.wrote ≡ true) }
-        ensures same { result ≡ false → self.new.states.items ≡ self.old.states.items }
+        ensures same { result ≡ false → states_of self.new ≡ states_of self.old }
 
         ensures clean { result ≡ true → (c : ℕ) (e : Entry) → kept group.now c ≡ Some e → meets_at self.old c e.wrote ≡ false }
         ensures joined { result ≡ true → (c : ℕ) → state_at self.new c ≡ state_after (state_at self.old c) (kept group.now c) }

@@ -3,7 +3,7 @@
 ghost use Rattle.std.specs.Prelude.{◌≡◌, ◌+◌, ◌^◌, ◌-◌, ◌<◌, ◌≤◌, ◌↔◌, ℕ, [], IsTrue, IfOk, option_map, OnOk, OnErr, None, Err};
 ghost use Rattle.sy_foot.specs.declared.stops.TouchStop.TheVariants.{Clash, Memory, Outside};
 ghost use Rattle.sy_foot.specs.Sparse.{IsPlaced};
-ghost use Rattle.sy_foot.specs.Footprints.{kept, room, is_earlier, first_written, read_clashes, write_clashes, number_of, after_read, after_write, written_with, Notes, Stays, Advances};
+ghost use Rattle.sy_foot.specs.Footprints.{kept, room, turn_of, phase_start, written_by, is_earlier, first_written, read_clashes, write_clashes, number_of, after_read, after_write, written_with, Notes, Stays, Advances};
 
 use crate::entries::Entries;
 use crate::entry::Entry;
@@ -27,8 +27,8 @@ impl Footprint {
     pub fn new(alloc: Global, cells: usize) -> Result<Footprint, AllocError>
         ensures room { IfOk result (λ f. room f ≡ cells) }
         ensures empty { IfOk result (λ f. (c : ℕ) → kept f c ≡ None) }
-        ensures written { IfOk result (λ f. f.written.items ≡ []) }
-        ensures turns { IfOk result (λ f. (f.start ≡ 1) × (f.turn ≡ 1)) }
+        ensures written { IfOk result (λ f. written_by f ≡ []) }
+        ensures turns { IfOk result (λ f. (phase_start f ≡ 1) × (turn_of f ≡ 1)) }
     {
         Ok(Footprint {
             entries: Entries::new(alloc, cells)?,
@@ -42,8 +42,8 @@ impl Footprint {
     pub fn clear(&mut self)
         ensures room { room self.new ≡ room self.old }
         ensures empty { (c : ℕ) → kept self.new c ≡ None }
-        ensures written { self.new.written.items ≡ [] }
-        ensures turns { (self.new.start ≡ 1) × (self.new.turn ≡ 1) }
+        ensures written { written_by self.new ≡ [] }
+        ensures turns { (phase_start self.new ≡ 1) × (turn_of self.new ≡ 1) }
     {
         self.entries.clear();
         self.written.clear();
@@ -53,8 +53,8 @@ impl Footprint {
 
     /// Goes on to the next item of the phase. After the last turn there is none, as if for want of memory.
     pub fn next_item(&mut self) -> Result<(), AllocError>
-        ensures item { OnOk result (Advances self.old self.new self.old.start (self.old.turn + 1)) }
-        ensures last { OnErr result (self.old.turn ≡ 2 ^ 64 - 1) }
+        ensures item { OnOk result (Advances self.old self.new (phase_start self.old) (turn_of self.old + 1)) }
+        ensures last { OnErr result (turn_of self.old ≡ 2 ^ 64 - 1) }
         ensures same { OnErr result (Stays self.old self.new) }
     {
         self.turn = self.turn.checked_add(1).ok_or(AllocError)?;
@@ -63,8 +63,8 @@ impl Footprint {
 
     /// Goes on to the first item of the next phase. After the last turn there is none.
     pub fn next_phase(&mut self) -> Result<(), AllocError>
-        ensures phase { OnOk result (Advances self.old self.new (self.old.turn + 1) (self.old.turn + 1)) }
-        ensures last { OnErr result (self.old.turn ≡ 2 ^ 64 - 1) }
+        ensures phase { OnOk result (Advances self.old self.new (turn_of self.old + 1) (turn_of self.old + 1)) }
+        ensures last { OnErr result (turn_of self.old ≡ 2 ^ 64 - 1) }
         ensures same { OnErr result (Stays self.old self.new) }
     {
         self.next_item()?;
@@ -78,7 +78,7 @@ impl Footprint {
     pub fn read(&mut self, cell: u32, opening: i128) -> Result<i128, TouchStop>
         ensures number { IfOk result (λ z. z ≡ number_of opening (kept self.old cell)) }
         ensures noted { OnOk result (Notes self.old self.new (after_read self.old cell opening (kept self.old cell))) }
-        ensures written { self.new.written.items ≡ self.old.written.items }
+        ensures written { written_by self.new ≡ written_by self.old }
 
         ensures clash { (result ≡ Err Clash) ↔ IsTrue (read_clashes self.old (kept self.old cell)) }
         ensures within { OnOk result (cell < room self.old) }
@@ -115,7 +115,7 @@ impl Footprint {
     #[inline]
     pub fn write(&mut self, cell: u32, number: i128) -> Result<(), TouchStop>
         ensures noted { OnOk result (Notes self.old self.new (after_write self.old cell number)) }
-        ensures written { OnOk result (self.new.written.items ≡ written_with self.old cell) }
+        ensures written { OnOk result (written_by self.new ≡ written_with self.old cell) }
 
         ensures clash { (result ≡ Err Clash) ↔ IsTrue (write_clashes self.old (kept self.old cell)) }
         ensures within { OnOk result (cell < room self.old) }
@@ -156,15 +156,16 @@ impl Footprint {
     }
 
     /// The entries of the cells that the group touched, in the order of first touches.
-    pub fn entries(&self) -> &[Entry]
+    pub(crate) fn entries(&self) -> &[Entry]
         ensures list { result.now ≡ self.now.entries.entries.items }
         ensures placed { IsPlaced self.now.entries.index.items result.now }
     {
         self.entries.as_slice()
     }
+
     /// The cells that the group wrote, in the order of their first writes.
     pub fn written(&self) -> &[u32]
-        ensures { result.now ≡ self.now.written.items }
+        ensures { result.now ≡ written_by self.now }
     {
         self.written.as_slice()
     }
