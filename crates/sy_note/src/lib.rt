@@ -6,6 +6,7 @@ ghost use Rattle.sy_note.specs.Notes.{rule_text, note_line};
 
 use itoa::Buffer;
 use std::alloc::{AllocError, Global};
+use thiserror::Error;
 
 #[cfg(test)]
 mod tests;
@@ -61,9 +62,11 @@ pub struct Diagnostic {
 }
 
 /// Why a layer of the front end answers no result.
-#[derive(Clone, Copy, PartialEq, Eq, Debug)]
+#[derive(Clone, Copy, PartialEq, Eq, Debug, Error)]
 pub enum FrontStop {
+    #[error("the source breaks a rule")]
     Refused(Diagnostic),
+    #[error("out of memory")]
     Memory,
 }
 

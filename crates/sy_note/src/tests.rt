@@ -37,3 +37,19 @@ fn lines(rt: HostRuntime) -> Result<(), Fail> {
     );
     Ok(())
 }
+
+#[test]
+fn texts_of_stops(rt: HostRuntime) -> Result<(), Fail> {
+    let refusal = Diagnostic {
+        spot: Spot::START,
+        code: Code::Grammar,
+    };
+    let table: [(FrontStop, &str); 2] = [
+        (FrontStop::Refused(refusal), "the source breaks a rule"),
+        (FrontStop::Memory, "out of memory"),
+    ];
+    for (stop, text) in table {
+        assert_eq!(rt; format!(in rt.alloc(); "{stop}")?.as_str(), text);
+    }
+    Ok(())
+}
