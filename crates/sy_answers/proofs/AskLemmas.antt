@@ -28,7 +28,7 @@ use Rattle.sy_needs.specs.Each.{each_from}
 use Rattle.sy_onecopy.specs.State.{Board}
 use Rattle.sy_onecopy.specs.Outcome.{values_of}
 use Rattle.sy_onecopy.specs.Settle.{await, reply, to_stage}
-use Rattle.sy_onecopy.specs.Step.{printed, made_buffer, new_buffer, part_buffer, mark_ended, end_entry, access_entry, accesses, add_entry, node_entry, made_part, end_root, end_buffer, opened_host, buffer_put, put_back, closed, close_entry, close_at, close_found, made_context, made_queue, submitted, wait_if, thrown, throw_queue, spawned, apply, stop, access_from, error_on, is_root, count_of, is_root_need, has_count, live_elements, holds_together}
+use Rattle.sy_onecopy.specs.Step.{after_print, made_buffer, new_buffer, part_buffer, mark_ended, end_entry, access_entry, accesses, add_entry, node_entry, made_part, end_root, end_buffer, opened_host, buffer_put, put_back, after_close, close_entry, close_at, close_found, made_context, made_queue, after_submit, wait_if, after_throw, throw_queue, after_spawn, apply, stop, access_from, error_on, is_root, count_of, is_root_need, has_count, live_elements, holds_together}
 use Rattle.sy_onecopy.specs.Sequence.{is_ready, ready_at}
 use Rattle.sy_answers.specs.Fitting.{count_after, FitsEnd}
 use Rattle.sy_answers.proofs.ListLemmas.{set_there, more_at, more_kept, more_before, last_at, length-more}
@@ -109,8 +109,8 @@ module _ (ask : ℕ → Ask) (b : Board) (t : ℕ) (q : Ask) (a : Asks ask b t q
   waits_moves false w s r = stays
 
 module _ (ask : ℕ → Ask) (b : Board) (t : ℕ) where
-  printed_moves : (bytes : List ℕ) → Asks ask b t (Print bytes) → MovesTo ask b.waits (printed b t bytes)
-  unfolding printed
+  printed_moves : (bytes : List ℕ) → Asks ask b t (Print bytes) → MovesTo ask b.waits (after_print b t bytes)
+  unfolding after_print
   printed_moves bytes a =
       either ask b.waits (nat_le (length b.output + length bytes) (2 ^ 24)) _ _ (answers ask b t (Print bytes) a (Due Answered) tt refl) (stays ask b t (Print bytes) a)
 
@@ -175,8 +175,8 @@ module _ (ask : ℕ → Ask) (b : Board) (t : ℕ) where
   closed_put q values k n false a s =
       replied ask b t q a b.buffers (to_stage b k stage.Done).entries (Due Answered) (all_kept b.buffers) (stage_none_new stage.Done refl k b.entries) (s b.buffers) refl
 
-  closed_moves : (q : Ask) (values : List ℤ) (k : ℕ) (n : Need) → Asks ask b t q → ((bs : List Buffer) → Suits bs q (Due Answered)) → MovesTo ask b.waits (closed b t values k n)
-  unfolding closed put_back
+  closed_moves : (q : Ask) (values : List ℤ) (k : ℕ) (n : Need) → Asks ask b t q → ((bs : List Buffer) → Suits bs q (Due Answered)) → MovesTo ask b.waits (after_close b t values k n)
+  unfolding after_close put_back
   closed_moves q values k n a s =
       either ask b.waits (length values == n.to - n.from) _ b (closed_put q values k n (writes n.mode) a s) (stays ask b t q a)
 
@@ -207,8 +207,8 @@ module _ (ask : ℕ → Ask) (b : Board) (t : ℕ) where
   made_queue_moves m a =
       either ask b.waits (nat_lt 0 m.context && nat_lt m.context b.places) _ b (answers ask b t (MakeQueue m) a (Due (Number (length b.queues))) tt refl) (stays ask b t (MakeQueue m) a)
 
-  submitted_moves : (s : Submission) (o : Option Queue) → Asks ask b t (Submit s) → MovesTo ask b.waits (submitted b t s o)
-  unfolding submitted
+  submitted_moves : (s : Submission) (o : Option Queue) → Asks ask b t (Submit s) → MovesTo ask b.waits (after_submit b t s o)
+  unfolding after_submit
   submitted_moves s None a = stays ask b t (Submit s) a
   submitted_moves s (Some x) a =
       let e = node_entry b.nodes s x in
@@ -216,7 +216,7 @@ module _ (ask : ℕ → Ask) (b : Board) (t : ℕ) where
       (replied ask b t (Submit s) a b.buffers (b.entries ++ e ∷ []) (Due (Number b.nodes)) (all_kept b.buffers) (node_none_new b.entries e refl) tt refl)
       (stays ask b t (Submit s) a)
 
-  thrown_moves : (r : ℕ) (o : Option KernelError) → Asks ask b t (ThrowQueue r) → MovesTo ask b.waits (thrown b t o)
+  thrown_moves : (r : ℕ) (o : Option KernelError) → Asks ask b t (ThrowQueue r) → MovesTo ask b.waits (after_throw b t o)
   thrown_moves r None a = answers ask b t (ThrowQueue r) a (Due Answered) tt refl
   thrown_moves r (Some e) a = stays ask b t (ThrowQueue r) a
 
@@ -300,8 +300,8 @@ module _ (ask : ℕ → Ask) where
   spawn_chosen b t body captures false h a =
       starts_none b.waits (Spawn body captures) (ap (λ v. if v then suc (length b.waits) else length b.waits) h) (stays ask b t (Spawn body captures) a)
 
-  spawned_turns : (b : Board) (t body : ℕ) (captures : List ℤ) → Asks ask b t (Spawn body captures) → TurnedTo ask b.waits (Spawn body captures) (spawned b t)
-  unfolding spawned
+  spawned_turns : (b : Board) (t body : ℕ) (captures : List ℤ) → Asks ask b t (Spawn body captures) → TurnedTo ask b.waits (Spawn body captures) (after_spawn b t)
+  unfolding after_spawn
   spawned_turns b t body captures a = spawn_chosen b t body captures (nat_lt (length b.waits) 64) refl a
 
   pub apply_turns : (b : Board) (t : ℕ) (q : Ask) → Asks ask b t q → TurnedTo ask b.waits q (apply b t q)

@@ -12,7 +12,7 @@ use Rattle.sy_onecopy.specs.declared.Entry.{Entry}
 use Rattle.sy_onecopy.specs.declared.Waits.{Waits}
 use Rattle.sy_onecopy.specs.declared.Waits.TheVariants.{Ready, Due, OnEntry, OnNode, OnQueue, OnThread, Never, Finished}
 use Rattle.sy_onecopy.specs.State.{Board, Thread, State, start, new_thread, ask_by, next_ask}
-use Rattle.sy_onecopy.specs.Step.{grown, hear, hear_all, once_heard, step}
+use Rattle.sy_onecopy.specs.Step.{threads_after, hear, hear_all, once_heard, step}
 use Rattle.sy_onecopy.specs.Sequence.{is_ready, ready_at, is_legal, seq_from, seq}
 use Rattle.sy_answers.specs.Fitting.{StepFits, Counted, board_after, count_after, due_of, due_at}
 use Rattle.sy_answers.proofs.ListLemmas.{below_or_not, map_at, more_kept, last_at, length-more}
@@ -47,8 +47,8 @@ chosen_at : (v : Bool) (xs : List Thread) (y : Thread) (u : ℕ) (x : Thread) �
 chosen_at true xs y u x h = more_kept xs y x u h
 chosen_at false xs y u x h = h
 
-grown_at : (b : Board) (q : Ask) (xs : List Thread) (u : ℕ) (x : Thread) → slice_get xs u ≡ Some x → slice_get (grown b q xs) u ≡ Some x
-unfolding grown
+grown_at : (b : Board) (q : Ask) (xs : List Thread) (u : ℕ) (x : Thread) → slice_get xs u ≡ Some x → slice_get (threads_after b q xs) u ≡ Some x
+unfolding threads_after
 grown_at b (Spawn body captures) xs u x h = chosen_at (nat_lt (length xs) (length b.waits)) xs (new_thread body captures) u x h
 grown_at b q xs u x h = h
 
@@ -58,8 +58,8 @@ chosen_count true false n xs y h e = absurd (grind (arith, nat_tests))
 chosen_count false true n xs y h e = absurd (grind (arith, nat_tests))
 chosen_count false false n xs y h e = refl
 
-grown_count : (b : Board) (q : Ask) (xs : List Thread) → length b.waits ≡ count_after q (length xs) → length (grown b q xs) ≡ count_after q (length xs)
-unfolding grown
+grown_count : (b : Board) (q : Ask) (xs : List Thread) → length b.waits ≡ count_after q (length xs) → length (threads_after b q xs) ≡ count_after q (length xs)
+unfolding threads_after
 grown_count b (Spawn body captures) xs e = chosen_count (nat_lt (length xs) (length b.waits)) (nat_lt (length xs) 64) (length b.waits) xs (new_thread body captures) refl e
 grown_count b q xs e = refl
 
@@ -68,8 +68,8 @@ chosen_last true w n xs y h t e = last_at xs y
 chosen_last false true n xs y h t e = absurd (grind (arith, nat_tests))
 chosen_last false false n xs y h t e = cc
 
-grown_last : (b : Board) (body : ℕ) (captures : List ℤ) (xs : List Thread) → length b.waits ≡ count_after (Spawn body captures) (length xs) → length xs < 64 → slice_get (grown b (Spawn body captures) xs) (length xs) ≡ Some (new_thread body captures)
-unfolding grown
+grown_last : (b : Board) (body : ℕ) (captures : List ℤ) (xs : List Thread) → length b.waits ≡ count_after (Spawn body captures) (length xs) → length xs < 64 → slice_get (threads_after b (Spawn body captures) xs) (length xs) ≡ Some (new_thread body captures)
+unfolding threads_after
 grown_last b body captures xs e l = chosen_last (nat_lt (length xs) (length b.waits)) (nat_lt (length xs) 64) (length b.waits) xs (new_thread body captures) refl (grind (arith, nat_tests)) e
 
 -- ---- a step
@@ -107,13 +107,13 @@ module _ (p : Program) (s : State) (t : ℕ) (k : Keeps p s) (l : is_legal p s t
   unfolding step
   step_told u x h =
       let b = board_after p s t in
-      hear_all_at b.waits (grown b (next_ask p s t) s.threads) u x (grown_at b (next_ask p s t) s.threads u x h)
+      hear_all_at b.waits (threads_after b (next_ask p s t) s.threads) u x (grown_at b (next_ask p s t) s.threads u x h)
 
   pub step_count : length (step p s t).threads ≡ count_after (next_ask p s t) (length s.threads)
   unfolding step
   step_count =
       let b = board_after p s t in
-      length-hear_all b.waits (grown b (next_ask p s t) s.threads) ∙ grown_count b (next_ask p s t) s.threads members_after
+      length-hear_all b.waits (threads_after b (next_ask p s t) s.threads) ∙ grown_count b (next_ask p s t) s.threads members_after
 
   pub step_started : (body : ℕ) (captures : List ℤ) → next_ask p s t ≡ Spawn body captures → length s.threads < 64 → slice_get (step p s t).threads (length s.threads) ≡ Some (new_thread body captures)
   unfolding step
@@ -121,9 +121,9 @@ module _ (p : Program) (s : State) (t : ℕ) (k : Keeps p s) (l : is_legal p s t
       let b = board_after p s t in
       let x = new_thread body captures in
       let c : length b.waits ≡ count_after (Spawn body captures) (length s.threads) = subst (λ q. length b.waits ≡ count_after q (length s.threads)) e members_after in
-      let g : slice_get (grown b (next_ask p s t) s.threads) (length s.threads) ≡ Some x = ap (λ q. slice_get (grown b q s.threads) (length s.threads)) e ∙ grown_last b body captures s.threads c h in
+      let g : slice_get (threads_after b (next_ask p s t) s.threads) (length s.threads) ≡ Some x = ap (λ q. slice_get (threads_after b q s.threads) (length s.threads)) e ∙ grown_last b body captures s.threads c h in
       let r : ready_at (slice_get b.waits (length s.threads)) ≡ true = (kept_fits p s t k l).fresh (length s.threads) (let m = k.counted.members in omega arith) (subst (λ n. length s.threads < n) (sym c) (one_spawn (length s.threads) h)) in
-      hear_all_at b.waits (grown b (next_ask p s t) s.threads) (length s.threads) x g ∙ ap (λ a. Some (with_answers x a)) (ready_none (slice_get b.waits (length s.threads)) r)
+      hear_all_at b.waits (threads_after b (next_ask p s t) s.threads) (length s.threads) x g ∙ ap (λ a. Some (with_answers x a)) (ready_none (slice_get b.waits (length s.threads)) r)
 
   -- who hears nothing asks as before
   same_ask : (u : ℕ) (w : Waits) → slice_get (board_after p s t).waits u ≡ Some w → is_ready w ≡ false → due_of w ≡ [] → next_ask p (step p s t) u ≡ next_ask p s u

@@ -12,7 +12,7 @@ use Rattle.sy_onecopy.specs.declared.Waits.{Waits}
 use Rattle.sy_onecopy.specs.declared.Waits.TheVariants.{Ready, Due, Never}
 use Rattle.sy_onecopy.specs.State.{Board, State, next_ask}
 use Rattle.sy_onecopy.specs.Settle.{settle}
-use Rattle.sy_onecopy.specs.Step.{apply, begun, give_all, turn}
+use Rattle.sy_onecopy.specs.Step.{apply, begin_ask, give_all, turn}
 use Rattle.sy_onecopy.specs.Sequence.{ready_at, goes_on, is_clear, may_step, is_legal}
 use Rattle.sy_answers.specs.Fitting.{FitsOver, StepFits, Counted, IsSpawn, board_after, count_after}
 use Rattle.sy_answers.proofs.ListLemmas.{same_or_not, below_or_not, set_other, set_there}
@@ -29,7 +29,7 @@ ready_is : (o : Option Waits) → ready_at o ≡ true → o ≡ Some Ready
 ready_is (Some Ready) h = refl
 ready_is o h = cc
 
-begun_asks : (ask : ℕ → Ask) (b : Board) (t : ℕ) → FitsBoard ask b → ready_at (slice_get b.waits t) ≡ true → Asks ask (begun b t) t (ask t)
+begun_asks : (ask : ℕ → Ask) (b : Board) (t : ℕ) → FitsBoard ask b → ready_at (slice_get b.waits t) ≡ true → Asks ask (begin_ask b t) t (ask t)
 begun_asks ask b t f r = record {
   fit = told ask b.buffers b.entries b.waits t Never f (λ k e x. let z : true ≡ false = sym r ∙ ap ready_at (f.waiting k e t x) in cc) tt;
   never = set_there b.waits t Never Ready (ready_is (slice_get b.waits t) r);
@@ -40,9 +40,9 @@ turn_turns : (ask : ℕ → Ask) (out : OutcomeOf) (b : Board) (t : ℕ) → Fit
 unfolding turn
 turn_turns ask out b t f r =
     let old = slice_set b.waits t Never in
-    let c = apply (begun b t) t (ask t) in
+    let c = apply (begin_ask b t) t (ask t) in
     let d = settle out c in
-    let m = apply_turns ask (begun b t) t (ask t) (begun_asks ask b t f r) in
+    let m = apply_turns ask (begin_ask b t) t (ask t) (begun_asks ask b t f r) in
     let n = settle_moves ask out c m.fit in
     moves_on ask old (ask t) d (give_all d) (moves_on ask old (ask t) c d m n) (give_moves ask d n.fit)
 

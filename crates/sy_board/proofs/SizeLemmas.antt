@@ -5,10 +5,10 @@ use Rattle.sy_onecopy.specs.declared.Buffer.{Buffer}
 use Rattle.sy_onecopy.specs.declared.Entry.{Entry}
 use Rattle.sy_onecopy.specs.State.{Board}
 use Rattle.sy_onecopy.specs.Copies.{copies}
-use Rattle.sy_onecopy.specs.Step.{begun}
+use Rattle.sy_onecopy.specs.Step.{begin_ask}
 use Rattle.sy_sound.specs.Sound.{IsSound}
 use Rattle.sy_sound.proofs.CountLemmas.{copies_few, nodes_few}
-use Rattle.sy_sound.proofs.SoundLemmas.{begun-sound}
+use Rattle.sy_sound.proofs.SoundLemmas.{begin_ask-sound}
 use Rattle.sy_entries.specs.Sizes.{AreNumbered}
 use Rattle.sy_board.specs.Sizes.{HasRoom}
 
@@ -25,8 +25,8 @@ room b s = record {
   places = omega (arith, s.counts.places);
 }
 
-pub begun_room : (b c : Board) (t : ℕ) → IsSound b → b.steps < 2 ^ 24 → c ≡ begun b t → HasRoom c
-begun_room b c t s lt e = rw e (room (begun b t) (begun-sound b t s lt))
+pub begun_room : (b c : Board) (t : ℕ) → IsSound b → b.steps < 2 ^ 24 → c ≡ begin_ask b t → HasRoom c
+begun_room b c t s lt e = rw e (room (begin_ask b t) (begin_ask-sound b t s lt))
 
 product_fits : (m n k : ℕ) → k ≤ m * n → m ≤ 16777216 → n ≤ 16777216 → k < 2 ^ 64
 product_fits m n k le a b =

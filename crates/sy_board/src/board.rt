@@ -10,7 +10,7 @@ ghost use Rattle.sy_onecopy.specs.Before.{is_free};
 ghost use Rattle.sy_onecopy.specs.Outcome.{inputs};
 ghost use Rattle.sy_onecopy.specs.Settle.{await, reply, with_stage, to_stage, took, first_of, effect, settle_one, settle_upto, settle};
 ghost use Rattle.sy_onecopy.specs.Each.{changed_at};
-ghost use Rattle.sy_onecopy.specs.Step.{stop, printed, new_buffer, add_buffer, made_buffer, made_part, add_entry, with_end, mark_ended, end_root, end_buffer, access_entry, opened_host, put_back, closed, close_at, close_found, access_from, made_context, made_queue, node_entry, holds_together, submitted, throw_queue, spawned, add_node, wait_if, apply, is_due, give_all, begun, turn, once_heard};
+ghost use Rattle.sy_onecopy.specs.Step.{stop, after_print, new_buffer, add_buffer, made_buffer, made_part, add_entry, with_end, mark_ended, end_root, end_buffer, access_entry, opened_host, put_back, after_close, close_at, close_found, access_from, made_context, made_queue, node_entry, holds_together, after_submit, throw_queue, after_spawn, add_node, wait_if, apply, is_due, give_all, begin_ask, turn, once_heard};
 ghost use Rattle.sy_sound.specs.Sound.{IsSound};
 ghost use Rattle.sy_sound.specs.Known.{AllKnown, IsKnown};
 ghost use Rattle.sy_board.specs.Sizes.{HasRoom};
@@ -207,9 +207,9 @@ impl OneCopy {
         Ok(())
     }
 
-    #[tactic(auto, unfolding(sy_onecopy::specs::Step::printed))]
+    #[tactic(auto, unfolding(sy_onecopy::specs::Step::after_print))]
     fn print(&mut self, t: u32, bytes: &Bytes) -> Result<(), AllocError>
-        ensures { OnOk result (self.new ≡ printed self.old t bytes.now) }
+        ensures { OnOk result (self.new ≡ after_print self.old t bytes.now) }
     {
         if self.output.items().len() + bytes.items().len() <= 1 << 24 {
             self.output.append(bytes)?;
@@ -356,7 +356,7 @@ impl OneCopy {
     }
 
     /// The access at entry k, of this need, is closed with these numbers.
-    #[tactic(auto, unfolding(sy_onecopy::specs::Step::closed))]
+    #[tactic(auto, unfolding(sy_onecopy::specs::Step::after_close))]
     fn close(
         &mut self,
         alloc: Global,
@@ -366,7 +366,7 @@ impl OneCopy {
         n: &Need,
     ) -> Result<(), AllocError>
         requires { length self.old.buffers < 2 ^ 32 }
-        ensures { OnOk result (self.new ≡ closed self.old t values.now k n.now) }
+        ensures { OnOk result (self.new ≡ after_close self.old t values.now k n.now) }
     {
         if values.len() == n.to.saturating_sub(n.from) as usize {
             self.put_back(alloc, n, values)?;
@@ -469,10 +469,10 @@ impl OneCopy {
         Ok(())
     }
 
-    #[tactic(auto, unfolding(sy_onecopy::specs::Step::submitted))]
+    #[tactic(auto, unfolding(sy_onecopy::specs::Step::after_submit))]
     fn submit(&mut self, alloc: Global, t: u32, s: &Submission) -> Result<(), AllocError>
         requires { self.old.nodes + 1 < 2 ^ 32 }
-        ensures { OnOk result (self.new ≡ submitted self.old t s.now (slice_get self.old.queues s.now.queue)) }
+        ensures { OnOk result (self.new ≡ after_submit self.old t s.now (slice_get self.old.queues s.now.queue)) }
     {
         let Some(x) = self.queues.get(s.queue as usize) else {
             return Ok(());
@@ -522,9 +522,9 @@ impl OneCopy {
         }
     }
 
-    #[tactic(auto, unfolding(sy_onecopy::specs::Step::spawned))]
+    #[tactic(auto, unfolding(sy_onecopy::specs::Step::after_spawn))]
     fn spawn(&mut self, t: u32) -> Result<(), AllocError>
-        ensures { OnOk result (self.new ≡ spawned self.old t) }
+        ensures { OnOk result (self.new ≡ after_spawn self.old t) }
     {
         if self.waits.len() < 64 {
             let number = self.waits.len() as u32;
@@ -603,7 +603,7 @@ impl OneCopy {
 
     fn begin(&mut self, t: u32)
         requires { self.old.steps < 2 ^ 24 }
-        ensures { self.new ≡ begun self.old t }
+        ensures { self.new ≡ begin_ask self.old t }
     {
         self.steps += 1;
         self.await_on(t, Waits::Never);

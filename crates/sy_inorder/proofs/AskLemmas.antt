@@ -30,7 +30,7 @@ use Rattle.sy_onecopy.specs.State.{Board}
 use Rattle.sy_onecopy.specs.Before.{is_done}
 use Rattle.sy_onecopy.specs.Outcome.{values_at, values_of}
 use Rattle.sy_onecopy.specs.Settle.{with_stage}
-use Rattle.sy_onecopy.specs.Step.{printed, made_buffer, made_part, end_root, end_buffer, opened_host, put_back, closed, close_entry, close_at, close_found, made_context, made_queue, submitted, wait_if, thrown, throw_queue, spawned, apply, access_from, is_access, error_on, is_root, count_of, is_root_need, are_root_needs, are_different, has_count, live_elements, holds_together, with_end}
+use Rattle.sy_onecopy.specs.Step.{after_print, made_buffer, made_part, end_root, end_buffer, opened_host, put_back, after_close, close_entry, close_at, close_found, made_context, made_queue, after_submit, wait_if, after_throw, throw_queue, after_spawn, apply, access_from, is_access, error_on, is_root, count_of, is_root_need, are_root_needs, are_different, has_count, live_elements, holds_together, with_end}
 use Rattle.sy_inorder.specs.Sequential.{put, after_work, numbers_of}
 use Rattle.sy_inorder.specs.Ledger.{closing, closing_at, over_at}
 use Rattle.sy_inorder.proofs.BoolLemmas.{and_first, and_second}
@@ -81,9 +81,9 @@ chosen : (v : Bool) (b c d : Board) → (v ≡ true → Became b c) → Became b
 chosen true b c d h i = h refl
 chosen false b c d h i = i
 
-printed-change : (b : Board) (t : ℕ) (bytes : List ℕ) → Became b (printed b t bytes)
-unfolding printed
-printed-change b t bytes = chosen (nat_le (length b.output + length bytes) (2 ^ 24)) b _ _ (λ h. quiet refl refl refl) (quiet refl refl refl)
+after_print-change : (b : Board) (t : ℕ) (bytes : List ℕ) → Became b (after_print b t bytes)
+unfolding after_print
+after_print-change b t bytes = chosen (nat_le (length b.output + length bytes) (2 ^ 24)) b _ _ (λ h. quiet refl refl refl) (quiet refl refl refl)
 
 made_buffer-change : (b : Board) (t : ℕ) (m : NewBuffer) → Became b (made_buffer b t m)
 unfolding made_buffer
@@ -135,10 +135,10 @@ together : (b : Board) (s : Submission) → holds_together b s ≡ true → list
 unfolding holds_together are_root_needs
 together b s h = and_first (list_all (is_root_need b.buffers) s.needs) (are_different s.needs) (and_first (list_all (is_root_need b.buffers) s.needs && are_different s.needs) _ h)
 
-submitted-change : (b : Board) (t : ℕ) (s : Submission) (o : Option Queue) → Became b (submitted b t s o)
-unfolding submitted Fits StandsAlone
-submitted-change b t s None = unchanged b
-submitted-change b t s (Some x) =
+after_submit-change : (b : Board) (t : ℕ) (s : Submission) (o : Option Queue) → Became b (after_submit b t s o)
+unfolding after_submit Fits StandsAlone
+after_submit-change b t s None = unchanged b
+after_submit-change b t s (Some x) =
     chosen (holds_together b s) b _ b (λ h. added _ refl (record { named = needs_there b.buffers s.needs (together b s h); fits = tt; alone = tt }) refl refl refl) (unchanged b)
 
 made_context-change : (b : Board) (t : ℕ) → Became b (made_context b t)
@@ -153,17 +153,17 @@ wait_if-change : (v : Bool) (b : Board) (t : ℕ) (w : Waits) → Became b (wait
 wait_if-change true b t w = quiet refl refl refl
 wait_if-change false b t w = unchanged b
 
-thrown-change : (b : Board) (t : ℕ) (o : Option KernelError) → Became b (thrown b t o)
-thrown-change b t None = quiet refl refl refl
-thrown-change b t (Some e) = quiet refl refl refl
+after_throw-change : (b : Board) (t : ℕ) (o : Option KernelError) → Became b (after_throw b t o)
+after_throw-change b t None = quiet refl refl refl
+after_throw-change b t (Some e) = quiet refl refl refl
 
 throw_queue-change : (b : Board) (t q : ℕ) → Became b (throw_queue b t q)
 unfolding throw_queue
-throw_queue-change b t q = chosen (nat_lt q (length b.queues)) b _ b (λ h. thrown-change b t (error_on q b.entries)) (unchanged b)
+throw_queue-change b t q = chosen (nat_lt q (length b.queues)) b _ b (λ h. after_throw-change b t (error_on q b.entries)) (unchanged b)
 
-spawned-change : (b : Board) (t : ℕ) → Became b (spawned b t)
-unfolding spawned
-spawned-change b t = chosen (nat_lt (length b.waits) 64) b _ _ (λ h. quiet refl refl refl) (quiet refl refl refl)
+after_spawn-change : (b : Board) (t : ℕ) → Became b (after_spawn b t)
+unfolding after_spawn
+after_spawn-change b t = chosen (nat_lt (length b.waits) 64) b _ _ (λ h. quiet refl refl refl) (quiet refl refl refl)
 
 -- ---- a close
 
@@ -209,18 +209,18 @@ just_closed : (b : Board) (c : Board) (values : List ℤ) (k : ℕ) → over_at 
 just_closed b c values k h i =
     ap (λ v. if not v && over_at (slice_get c.entries k) then (k, values) ∷ [] else []) h ∙ ap (λ v. if v then (k, values) ∷ [] else []) i
 
-closed-change : (v : Bool) (b : Board) (t i : ℕ) (values : List ℤ) (k : ℕ) (e : Entry) (n : Need) (ns : List Need) (c : Board) → c.entries ≡ changed_at (with_stage stage.Done) k (put_back b n values).entries → c.buffers ≡ (put_back b n values).buffers → slice_get b.entries k ≡ Some e → e.stage ≡ stage.Granted → e.needs ≡ n ∷ ns → is_access e.work t i ≡ true → Closing b values (Some k) (if v then c else b)
+after_close-change : (v : Bool) (b : Board) (t i : ℕ) (values : List ℤ) (k : ℕ) (e : Entry) (n : Need) (ns : List Need) (c : Board) → c.entries ≡ changed_at (with_stage stage.Done) k (put_back b n values).entries → c.buffers ≡ (put_back b n values).buffers → slice_get b.entries k ≡ Some e → e.stage ≡ stage.Granted → e.needs ≡ n ∷ ns → is_access e.work t i ≡ true → Closing b values (Some k) (if v then c else b)
 unfolding Closing
-closed-change true b t i values k e n ns c fs cs at s needs w =
+after_close-change true b t i values k e n ns c fs cs at s needs w =
     let es : c.entries ≡ changed_at (with_stage stage.Done) k b.entries = fs ∙ ap (changed_at (with_stage stage.Done) k) (put_back-entries b n values) in
     let was : over_at (slice_get b.entries k) ≡ false = ap over_at at ∙ ap is_done s in
     let is : over_at (slice_get c.entries k) ≡ true = ap (λ l. over_at (slice_get l k)) es ∙ ap over_at (changed_get (with_stage stage.Done) k b.entries e at) in
     shut k e values at s (access_no_node e.work t i w) es (λ out. cs ∙ put_back-buffers b n ns values ∙ ap (λ l. put l values b.buffers) (sym needs) ∙ access_puts out values e.needs e.work t i b.buffers w) (just_closed b c values k was is)
-closed-change false b t i values k e n ns c fs cs at s needs w = nothing_closed b values k
+after_close-change false b t i values k e n ns c fs cs at s needs w = nothing_closed b values k
 
 close_entry-change : (b : Board) (t i : ℕ) (values : List ℤ) (k : ℕ) (e : Entry) (s : Stage) (ns : List Need) → slice_get b.entries k ≡ Some e → e.stage ≡ s → e.needs ≡ ns → is_access e.work t i ≡ true → Closing b values (Some k) (close_entry b t values k s ns)
-unfolding close_entry closed
-close_entry-change b t i values k e stage.Granted (n ∷ ns) at s needs w = closed-change (length values == n.to - n.from) b t i values k e n ns _ refl refl at s needs w
+unfolding close_entry after_close
+close_entry-change b t i values k e stage.Granted (n ∷ ns) at s needs w = after_close-change (length values == n.to - n.from) b t i values k e n ns _ refl refl at s needs w
 close_entry-change b t i values k e stage.Granted [] at s needs w = nothing_closed b values k
 close_entry-change b t i values k e stage.Pending ns at s needs w = nothing_closed b values k
 close_entry-change b t i values k e stage.Done ns at s needs w = nothing_closed b values k
@@ -257,7 +257,7 @@ close_found-change b t i values (Some k) h = close_at-change b t i values k (sli
 
 pub apply-change : (b : Board) (t : ℕ) (q : Ask) → Change b.entries (apply b t q).entries b.buffers (apply b t q).buffers (closing b.entries (apply b t q).entries t q)
 unfolding apply closing Closing
-apply-change b t (Print bytes) = printed-change b t bytes
+apply-change b t (Print bytes) = after_print-change b t bytes
 apply-change b t (MakeBuffer m) = made_buffer-change b t m
 apply-change b t (MakeSub parent base range) = made_part-change b t parent base (product range)
 apply-change b t (EndBuffer r) = end_buffer-change b t r (slice_get b.buffers r) refl
@@ -265,11 +265,11 @@ apply-change b t (OpenHost n) = opened_host-change b t n
 apply-change b t (CloseHost k values) = close_found-change b t k values (access_from 0 b.entries t k) refl
 apply-change b t (MakeContext device) = made_context-change b t
 apply-change b t (MakeQueue m) = made_queue-change b t m
-apply-change b t (Submit s) = submitted-change b t s (slice_get b.queues s.queue)
+apply-change b t (Submit s) = after_submit-change b t s (slice_get b.queues s.queue)
 apply-change b t (WaitNode n) = wait_if-change _ b t _
 apply-change b t (WaitQueue q) = wait_if-change _ b t _
 apply-change b t (ThrowQueue q) = throw_queue-change b t q
-apply-change b t (Spawn body captures) = spawned-change b t
+apply-change b t (Spawn body captures) = after_spawn-change b t
 apply-change b t (Join u) = wait_if-change _ b t _
 apply-change b t (Finish v) = quiet refl refl refl
 apply-change b t (Halt h) = quiet refl refl refl

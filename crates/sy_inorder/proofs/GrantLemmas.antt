@@ -17,7 +17,7 @@ use Rattle.sy_onecopy.specs.Before.{is_free, is_held, is_pending}
 use Rattle.sy_onecopy.specs.Laws.{IsSettled}
 use Rattle.sy_onecopy.specs.Outcome.{inputs}
 use Rattle.sy_onecopy.specs.Settle.{await, effect, settle_entry, settle_upto, settle, settle_one, first_of}
-use Rattle.sy_onecopy.specs.Step.{add_entry, access_entry, accesses, is_root_need, opened_host, apply, begun, given, give_all, turn, step}
+use Rattle.sy_onecopy.specs.Step.{add_entry, access_entry, accesses, is_root_need, opened_host, apply, begin_ask, given, give_all, turn, step}
 use Rattle.sy_onecopy.specs.Sequence.{ready_at, is_legal, may_step, goes_on, is_clear, seq, seq_from}
 use Rattle.sy_onecopy.proofs.SettleLemmas.{settled}
 use Rattle.sy_inorder.specs.Effects.{turned}
@@ -107,9 +107,9 @@ opened_by false b c h = let z : false ≡ true = h in absurd cc
 abbrev with_access : Board → ℕ → Need → Board
 with_access b t n = await (add_entry b (access_entry t (accesses b.entries t) n)) t OnEntry
 
-opened_is : (b : Board) (t : ℕ) (n : Need) → is_root_need b.buffers n ≡ true → apply (begun b t) t (OpenHost n) ≡ with_access (begun b t) t n
+opened_is : (b : Board) (t : ℕ) (n : Need) → is_root_need b.buffers n ≡ true → apply (begin_ask b t) t (OpenHost n) ≡ with_access (begin_ask b t) t n
 unfolding apply opened_host
-opened_is b t n h = opened_by (is_root_need b.buffers n) (begun b t) (with_access (begun b t) t n) h
+opened_is b t n h = opened_by (is_root_need b.buffers n) (begin_ask b t) (with_access (begin_ask b t) t n) h
 
 pub due_stays : (b : Board) (ws : List Waits) (t : ℕ) (a : Answer) → slice_get ws t ≡ Some (Due a) → slice_get (map (given b) ws) t ≡ Some (Due a)
 due_stays b ws t a h = slice_get-map (given b) ws t ∙ ap (option_map (given b)) h
@@ -137,7 +137,7 @@ turn_due : (out : OutcomeOf) (b : Board) (t : ℕ) (n : Need) → IsSettled b �
 unfolding turn give_all
 turn_due out b t n still there root reads let_read =
     let e = access_entry t (accesses b.entries t) n in
-    let c = with_access (begun b t) t n in
+    let c = with_access (begin_ask b t) t n in
     let held : is_held b.entries e ≡ false = not_held b.entries e (keep_off b.entries e reads let_read) (follows_nothing b.entries e refl refl) in
     let pass : settle out c ≡ effect out c (length b.entries) e e.work = pass_last out c b.entries e refl (λ j x g. still j x g) (newly_free b.entries e c.entries refl refl held) in
     let long : t < length c.waits =

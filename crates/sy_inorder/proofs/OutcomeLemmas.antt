@@ -19,7 +19,7 @@ use Rattle.sy_onecopy.specs.State.{Board, State, start, next_ask}
 use Rattle.sy_onecopy.specs.Before.{is_done, is_free}
 use Rattle.sy_onecopy.specs.Outcome.{inputs}
 use Rattle.sy_onecopy.specs.Settle.{with_stage, took, effect, settle_entry, settle_upto}
-use Rattle.sy_onecopy.specs.Step.{begun, give_all, turn, step}
+use Rattle.sy_onecopy.specs.Step.{begin_ask, give_all, turn, step}
 use Rattle.sy_onecopy.specs.Sequence.{is_legal, seq, seq_from}
 use Rattle.sy_inorder.specs.Sequential.{after_work, stage_by, execute_one, execute, Execution, is_any, is_over}
 use Rattle.sy_inorder.specs.Ledger.{Ledger, closed_with, asked, noted, empty, ledger_from, ledger_of, execute_all, execute_done}
@@ -217,7 +217,7 @@ upto_outcomes out l b (suc n) h =
 
 asked_outcomes : (out : OutcomeOf) (l : Ledger) (b : Board) (t : ℕ) (q : Ask) → Tells out l b → OutcomesHold out (noted l b t q) (asked b t q).entries
 unfolding noted
-asked_outcomes out l b t q h = change_outcomes out l b.entries (asked b t q).entries b.buffers (asked b t q).buffers _ (apply-change (begun b t) t q) h.holds h.outcomes
+asked_outcomes out l b t q h = change_outcomes out l b.entries (asked b t q).entries b.buffers (asked b t q).buffers _ (apply-change (begin_ask b t) t q) h.holds h.outcomes
 
 step_tells : (p : Program) (l : Ledger) (s : State) (t : ℕ) → Tells p.outcome l s.board → Tells p.outcome (noted l s.board t (next_ask p s t)) (step p s t).board
 unfolding step turn give_all

@@ -14,7 +14,7 @@ use Rattle.sy_onecopy.specs.State.{Board, State, start, next_ask}
 use Rattle.sy_onecopy.specs.Before.{before, is_free, is_held, blocks, is_done, is_pending}
 use Rattle.sy_onecopy.specs.Outcome.{inputs, buffers_after}
 use Rattle.sy_onecopy.specs.Settle.{took, effect, settle_entry, settle_upto}
-use Rattle.sy_onecopy.specs.Step.{begun, give_all, turn, step}
+use Rattle.sy_onecopy.specs.Step.{begin_ask, give_all, turn, step}
 use Rattle.sy_onecopy.specs.Sequence.{is_legal, seq, seq_from}
 use Rattle.sy_inorder.specs.Sequential.{after_work, log_of}
 use Rattle.sy_inorder.specs.Ledger.{Ledger, closed_with, asked, noted, empty, ledger_from, ledger_of}
@@ -74,7 +74,7 @@ upto_holds out l b (suc n) h = entry_holds out l (settle_upto out b n) n (slice_
 
 pub asked_holds : (out : OutcomeOf) (l : Ledger) (b : Board) (t : ℕ) (q : _) → BoardHolds out l b → BoardHolds out (noted l b t q) (asked b t q)
 unfolding noted
-asked_holds out l b t q h = change_holds out l b.entries (asked b t q).entries b.buffers (asked b t q).buffers _ (apply-change (begun b t) t q) h
+asked_holds out l b t q h = change_holds out l b.entries (asked b t q).entries b.buffers (asked b t q).buffers _ (apply-change (begin_ask b t) t q) h
 
 step_holds : (p : Program) (l : Ledger) (s : State) (t : ℕ) → BoardHolds p.outcome l s.board → BoardHolds p.outcome (noted l s.board t (next_ask p s t)) (step p s t).board
 unfolding step turn give_all

@@ -32,7 +32,7 @@ use Rattle.sy_onecopy.specs.State.{Board, State, start, next_ask}
 use Rattle.sy_onecopy.specs.Before.{is_free, is_pending}
 use Rattle.sy_onecopy.specs.Outcome.{inputs}
 use Rattle.sy_onecopy.specs.Settle.{with_stage, took, effect, settle_entry, settle_upto, settle}
-use Rattle.sy_onecopy.specs.Step.{printed, made_buffer, made_part, end_root, end_buffer, opened_host, put_back, closed, close_entry, close_at, close_found, made_context, made_queue, submitted, wait_if, thrown, throw_queue, spawned, apply, access_from, error_on, is_root, count_of, is_root_need, has_count, live_elements, holds_together, begun, given, give_all, turn, step, once_heard}
+use Rattle.sy_onecopy.specs.Step.{after_print, made_buffer, made_part, end_root, end_buffer, opened_host, put_back, after_close, close_entry, close_at, close_found, made_context, made_queue, after_submit, wait_if, after_throw, throw_queue, after_spawn, apply, access_from, error_on, is_root, count_of, is_root_need, has_count, live_elements, holds_together, begin_ask, given, give_all, turn, step, once_heard}
 use Rattle.sy_onecopy.specs.Sequence.{ready_at, is_legal, seq, seq_from}
 use Rattle.sy_inorder.specs.Ledger.{asked}
 use Rattle.sy_inorder.proofs.ListLemmas as places
@@ -106,9 +106,9 @@ nothing t b = no_entry (all_old b.entries) (λ u n h. h)
 waits_for : (t : ℕ) (es : List Entry) (ws : List Waits) (w : Waits) → Turned t es es ws (slice_set ws t w)
 waits_for t es ws w = no_entry (all_old es) (others_set t ws w)
 
-printed-turn : (b : Board) (t : ℕ) (bytes : List ℕ) → Turns t b (printed b t bytes)
-unfolding printed
-printed-turn b t bytes = either (nat_le (length b.output + length bytes) (2 ^ 24)) t b _ _ (waits_for t b.entries b.waits _) (nothing t b)
+after_print-turn : (b : Board) (t : ℕ) (bytes : List ℕ) → Turns t b (after_print b t bytes)
+unfolding after_print
+after_print-turn b t bytes = either (nat_le (length b.output + length bytes) (2 ^ 24)) t b _ _ (waits_for t b.entries b.waits _) (nothing t b)
 
 made_buffer-turn : (b : Board) (t : ℕ) (m : NewBuffer) → Turns t b (made_buffer b t m)
 unfolding made_buffer
@@ -142,10 +142,10 @@ opened_host-turn b t n lt = either (is_root_need b.buffers n) t b _ b (awaited t
 nobodys : (t : ℕ) (es : List Entry) (ws : List Waits) (e : Entry) (w : Waits) → owner e.work ≡ None → Turned t es (es ++ e ∷ []) ws (slice_set ws t w)
 nobodys t es ws e w o = an_entry e refl (λ u h. absurd (none-some u (sym o ∙ h))) (others_set t ws w)
 
-submitted-turn : (b : Board) (t : ℕ) (s : Submission) (o : Option Queue) → Turns t b (submitted b t s o)
-unfolding submitted owner
-submitted-turn b t s None = nothing t b
-submitted-turn b t s (Some x) = either (holds_together b s) t b _ b (nobodys t b.entries b.waits _ _ refl) (nothing t b)
+after_submit-turn : (b : Board) (t : ℕ) (s : Submission) (o : Option Queue) → Turns t b (after_submit b t s o)
+unfolding after_submit owner
+after_submit-turn b t s None = nothing t b
+after_submit-turn b t s (Some x) = either (holds_together b s) t b _ b (nobodys t b.entries b.waits _ _ refl) (nothing t b)
 
 closed_old : (es : List Entry) (k : ℕ) (s : Stage) → is_pending s ≡ false → NoneNew es (changed_at (with_stage s) k es)
 closed_old es k s p j e g h = elim (places.changed_or (with_stage s) k es j e g) [
@@ -153,9 +153,9 @@ closed_old es k s p j e g h = elim (places.changed_or (with_stage s) k es j e g)
   | changed z jk gk fz ↦ let w : true ≡ false = sym h ∙ ap (λ x. is_pending x.stage) (sym fz) ∙ p in absurd cc
 ]
 
-closed-turn : (b : Board) (t : ℕ) (values : List ℤ) (k : ℕ) (n : Need) → Turns t b (closed b t values k n)
-unfolding closed put_back
-closed-turn b t values k n =
+after_close-turn : (b : Board) (t : ℕ) (values : List ℤ) (k : ℕ) (n : Need) → Turns t b (after_close b t values k n)
+unfolding after_close put_back
+after_close-turn b t values k n =
     let es = same_part (λ (c : Board). c.entries) (writes n.mode) b _ refl in
     let ws = same_part (λ (c : Board). c.waits) (writes n.mode) b _ refl in
     either (length values == n.to - n.from) t b _ b
@@ -165,7 +165,7 @@ closed-turn b t values k n =
 
 close_entry-turn : (b : Board) (t : ℕ) (values : List ℤ) (k : ℕ) (s : Stage) (ns : List Need) → Turns t b (close_entry b t values k s ns)
 unfolding close_entry
-close_entry-turn b t values k stage.Granted (n ∷ ns) = closed-turn b t values k n
+close_entry-turn b t values k stage.Granted (n ∷ ns) = after_close-turn b t values k n
 close_entry-turn b t values k stage.Granted [] = nothing t b
 close_entry-turn b t values k stage.Pending ns = nothing t b
 close_entry-turn b t values k stage.Done ns = nothing t b
@@ -193,24 +193,24 @@ wait_if-turn : (v : Bool) (b : Board) (t : ℕ) (w : Waits) → Turns t b (wait_
 wait_if-turn true b t w = waits_for t b.entries b.waits w
 wait_if-turn false b t w = nothing t b
 
-thrown-turn : (b : Board) (t : ℕ) (o : Option KernelError) → Turns t b (thrown b t o)
-thrown-turn b t None = waits_for t b.entries b.waits _
-thrown-turn b t (Some e) = nothing t b
+after_throw-turn : (b : Board) (t : ℕ) (o : Option KernelError) → Turns t b (after_throw b t o)
+after_throw-turn b t None = waits_for t b.entries b.waits _
+after_throw-turn b t (Some e) = nothing t b
 
 throw_queue-turn : (b : Board) (t q : ℕ) → Turns t b (throw_queue b t q)
 unfolding throw_queue
-throw_queue-turn b t q = either (nat_lt q (length b.queues)) t b _ b (thrown-turn b t (error_on q b.entries)) (nothing t b)
+throw_queue-turn b t q = either (nat_lt q (length b.queues)) t b _ b (after_throw-turn b t (error_on q b.entries)) (nothing t b)
 
-spawned-turn : (b : Board) (t : ℕ) → Turns t b (spawned b t)
-unfolding spawned
-spawned-turn b t =
+after_spawn-turn : (b : Board) (t : ℕ) → Turns t b (after_spawn b t)
+unfolding after_spawn
+after_spawn-turn b t =
     either (nat_lt (length b.waits) 64) t b _ _
     (no_entry (all_old b.entries) (λ u n h. others_set t (b.waits ++ Ready ∷ []) _ u n (places.get_front b.waits Ready u (slice_get_within b.waits u OnEntry h) ∙ h)))
     (nothing t b)
 
 apply-turn : (b : Board) (t : ℕ) (q : Ask) → t < length b.waits → Turns t b (apply b t q)
 unfolding apply
-apply-turn b t (Print bytes) lt = printed-turn b t bytes
+apply-turn b t (Print bytes) lt = after_print-turn b t bytes
 apply-turn b t (MakeBuffer m) lt = made_buffer-turn b t m
 apply-turn b t (MakeSub parent base range) lt = made_part-turn b t parent base (product range)
 apply-turn b t (EndBuffer r) lt = end_buffer-turn b t r (slice_get b.buffers r) lt
@@ -218,11 +218,11 @@ apply-turn b t (OpenHost n) lt = opened_host-turn b t n lt
 apply-turn b t (CloseHost k values) lt = close_found-turn b t values (access_from 0 b.entries t k)
 apply-turn b t (MakeContext device) lt = made_context-turn b t
 apply-turn b t (MakeQueue m) lt = made_queue-turn b t m
-apply-turn b t (Submit s) lt = submitted-turn b t s (slice_get b.queues s.queue)
+apply-turn b t (Submit s) lt = after_submit-turn b t s (slice_get b.queues s.queue)
 apply-turn b t (WaitNode n) lt = wait_if-turn _ b t _
 apply-turn b t (WaitQueue q) lt = wait_if-turn _ b t _
 apply-turn b t (ThrowQueue q) lt = throw_queue-turn b t q
-apply-turn b t (Spawn body captures) lt = spawned-turn b t
+apply-turn b t (Spawn body captures) lt = after_spawn-turn b t
 apply-turn b t (Join u) lt = wait_if-turn _ b t _
 apply-turn b t (Finish v) lt = waits_for t b.entries b.waits _
 apply-turn b t (Halt h) lt = nothing t b
@@ -279,8 +279,8 @@ set_waited es ws t w none h = record {
 pub asked_waited : (b : Board) (t : ℕ) (q : Ask) → t < length b.waits → ready_at (slice_get b.waits t) ≡ true → BoardWaited b → BoardWaited (asked b t q)
 asked_waited b t q lt ready h =
     let none = none_of_ready b.entries b.waits t ready h in
-    let long : t < length (begun b t).waits = let x = places.length_slice_set b.waits t Never in omega (arith, lt, x) in
-    turned_waited t b.entries (asked b t q).entries (begun b t).waits (asked b t q).waits (apply-turn (begun b t) t q long) none (set_waited b.entries b.waits t Never none h)
+    let long : t < length (begin_ask b t).waits = let x = places.length_slice_set b.waits t Never in omega (arith, lt, x) in
+    turned_waited t b.entries (asked b t q).entries (begin_ask b t).waits (asked b t q).waits (apply-turn (begin_ask b t) t q long) none (set_waited b.entries b.waits t Never none h)
 
 -- ---- the pass
 

@@ -7,7 +7,7 @@ use Rattle.sy_onecopy.specs.declared.Buffer.{Buffer}
 use Rattle.sy_onecopy.specs.declared.Entry.{Entry}
 use Rattle.sy_onecopy.specs.State.{Board, State, start, next_ask}
 use Rattle.sy_onecopy.specs.Before.{is_done}
-use Rattle.sy_onecopy.specs.Step.{access_from, apply, begun, step}
+use Rattle.sy_onecopy.specs.Step.{access_from, apply, begin_ask, step}
 use Rattle.sy_inorder.specs.Sequential.{execute, is_any, is_over}
 
 pub record Ledger : Type 0 where
@@ -39,7 +39,7 @@ closing before after t q = []
 
 -- the board as the ask of thread t leaves it, before anything settles
 abbrev pub asked : Board → ℕ → Ask → Board
-asked b t q = apply (begun b t) t q
+asked b t q = apply (begin_ask b t) t q
 
 -- the ledger after the ask: with the buffers that it adds, and the access that it closes
 unfoldable pub noted : Ledger → Board → ℕ → Ask → Ledger

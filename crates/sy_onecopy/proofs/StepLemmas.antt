@@ -29,7 +29,7 @@ use Rattle.sy_onecopy.specs.State.{Board, State, next_ask}
 use Rattle.sy_onecopy.specs.Before.{is_free}
 use Rattle.sy_onecopy.specs.Outcome.{inputs}
 use Rattle.sy_onecopy.specs.Settle.{took, effect, settle_entry, settle_upto}
-use Rattle.sy_onecopy.specs.Step.{printed, made_buffer, made_part, end_root, end_buffer, opened_host, put_back, closed, close_entry, close_at, close_found, made_context, made_queue, submitted, wait_if, thrown, throw_queue, spawned, apply, begun, give_all, turn, step, access_from, error_on, is_root, count_of, is_root_need, has_count, live_elements, holds_together}
+use Rattle.sy_onecopy.specs.Step.{after_print, made_buffer, made_part, end_root, end_buffer, opened_host, put_back, after_close, close_entry, close_at, close_found, made_context, made_queue, after_submit, wait_if, after_throw, throw_queue, after_spawn, apply, begin_ask, give_all, turn, step, access_from, error_on, is_root, count_of, is_root_need, has_count, live_elements, holds_together}
 use Rattle.sy_onecopy.specs.Sequence.{ready_at, is_legal, may_step, goes_on, value_of_main, first_from, first_thread, ending, ending_by_step, ending_by_main, ending_of_threads}
 
 -- ---- steps
@@ -38,9 +38,9 @@ either : (v : Bool) (b c : Board) (n : ℕ) → b.steps ≡ n → c.steps ≡ n 
 either true b c n p q = p
 either false b c n p q = q
 
-printed-steps : (b : Board) (t : ℕ) (bytes : List ℕ) → (printed b t bytes).steps ≡ b.steps
-unfolding printed
-printed-steps b t bytes = either (nat_le (length b.output + length bytes) (2 ^ 24)) _ _ b.steps refl refl
+after_print-steps : (b : Board) (t : ℕ) (bytes : List ℕ) → (after_print b t bytes).steps ≡ b.steps
+unfolding after_print
+after_print-steps b t bytes = either (nat_le (length b.output + length bytes) (2 ^ 24)) _ _ b.steps refl refl
 
 made_buffer-steps : (b : Board) (t : ℕ) (m : NewBuffer) → (made_buffer b t m).steps ≡ b.steps
 unfolding made_buffer
@@ -70,13 +70,13 @@ put_back-steps : (b : Board) (n : Need) (values : List ℤ) → (put_back b n va
 unfolding put_back
 put_back-steps b n values = either (writes n.mode) _ b b.steps refl refl
 
-closed-steps : (b : Board) (t : ℕ) (values : List ℤ) (k : ℕ) (n : Need) → (closed b t values k n).steps ≡ b.steps
-unfolding closed
-closed-steps b t values k n = either (length values == n.to - n.from) _ b b.steps (put_back-steps b n values) refl
+after_close-steps : (b : Board) (t : ℕ) (values : List ℤ) (k : ℕ) (n : Need) → (after_close b t values k n).steps ≡ b.steps
+unfolding after_close
+after_close-steps b t values k n = either (length values == n.to - n.from) _ b b.steps (put_back-steps b n values) refl
 
 close_entry-steps : (b : Board) (t : ℕ) (values : List ℤ) (k : ℕ) (s : Stage) (ns : List Need) → (close_entry b t values k s ns).steps ≡ b.steps
 unfolding close_entry
-close_entry-steps b t values k stage.Granted (n ∷ ns) = closed-steps b t values k n
+close_entry-steps b t values k stage.Granted (n ∷ ns) = after_close-steps b t values k n
 close_entry-steps b t values k stage.Granted [] = refl
 close_entry-steps b t values k stage.Pending ns = refl
 close_entry-steps b t values k stage.Done ns = refl
@@ -100,30 +100,30 @@ made_queue-steps : (b : Board) (t : ℕ) (m : NewQueue) → (made_queue b t m).s
 unfolding made_queue
 made_queue-steps b t m = either (nat_lt 0 m.context && nat_lt m.context b.places) _ b b.steps refl refl
 
-submitted-steps : (b : Board) (t : ℕ) (s : Submission) (o : Option Queue) → (submitted b t s o).steps ≡ b.steps
-unfolding submitted
-submitted-steps b t s None = refl
-submitted-steps b t s (Some x) = either (holds_together b s) _ b b.steps refl refl
+after_submit-steps : (b : Board) (t : ℕ) (s : Submission) (o : Option Queue) → (after_submit b t s o).steps ≡ b.steps
+unfolding after_submit
+after_submit-steps b t s None = refl
+after_submit-steps b t s (Some x) = either (holds_together b s) _ b b.steps refl refl
 
 wait_if-steps : (v : Bool) (b : Board) (t : ℕ) (w : Waits) → (wait_if v b t w).steps ≡ b.steps
 wait_if-steps true b t w = refl
 wait_if-steps false b t w = refl
 
-thrown-steps : (b : Board) (t : ℕ) (o : Option KernelError) → (thrown b t o).steps ≡ b.steps
-thrown-steps b t None = refl
-thrown-steps b t (Some e) = refl
+after_throw-steps : (b : Board) (t : ℕ) (o : Option KernelError) → (after_throw b t o).steps ≡ b.steps
+after_throw-steps b t None = refl
+after_throw-steps b t (Some e) = refl
 
 throw_queue-steps : (b : Board) (t q : ℕ) → (throw_queue b t q).steps ≡ b.steps
 unfolding throw_queue
-throw_queue-steps b t q = either (nat_lt q (length b.queues)) _ b b.steps (thrown-steps b t (error_on q b.entries)) refl
+throw_queue-steps b t q = either (nat_lt q (length b.queues)) _ b b.steps (after_throw-steps b t (error_on q b.entries)) refl
 
-spawned-steps : (b : Board) (t : ℕ) → (spawned b t).steps ≡ b.steps
-unfolding spawned
-spawned-steps b t = either (nat_lt (length b.waits) 64) _ _ b.steps refl refl
+after_spawn-steps : (b : Board) (t : ℕ) → (after_spawn b t).steps ≡ b.steps
+unfolding after_spawn
+after_spawn-steps b t = either (nat_lt (length b.waits) 64) _ _ b.steps refl refl
 
 apply-steps : (b : Board) (t : ℕ) (q : Ask) → (apply b t q).steps ≡ b.steps
 unfolding apply
-apply-steps b t (Print bytes) = printed-steps b t bytes
+apply-steps b t (Print bytes) = after_print-steps b t bytes
 apply-steps b t (MakeBuffer m) = made_buffer-steps b t m
 apply-steps b t (MakeSub parent base range) = made_part-steps b t parent base (product range)
 apply-steps b t (EndBuffer r) = end_buffer-steps b t r (slice_get b.buffers r)
@@ -131,11 +131,11 @@ apply-steps b t (OpenHost n) = opened_host-steps b t n
 apply-steps b t (CloseHost k values) = close_found-steps b t values (access_from 0 b.entries t k)
 apply-steps b t (MakeContext device) = made_context-steps b t
 apply-steps b t (MakeQueue m) = made_queue-steps b t m
-apply-steps b t (Submit s) = submitted-steps b t s (slice_get b.queues s.queue)
+apply-steps b t (Submit s) = after_submit-steps b t s (slice_get b.queues s.queue)
 apply-steps b t (WaitNode n) = wait_if-steps _ b t _
 apply-steps b t (WaitQueue q) = wait_if-steps _ b t _
 apply-steps b t (ThrowQueue q) = throw_queue-steps b t q
-apply-steps b t (Spawn body captures) = spawned-steps b t
+apply-steps b t (Spawn body captures) = after_spawn-steps b t
 apply-steps b t (Join u) = wait_if-steps _ b t _
 apply-steps b t (Finish v) = refl
 apply-steps b t (Halt h) = refl
@@ -166,8 +166,8 @@ settle_upto-steps out b (suc n) =
 pub turn-steps : (out : OutcomeOf) (b : Board) (t : ℕ) (q : Ask) → (turn out b t q).steps ≡ suc b.steps
 unfolding turn give_all
 turn-steps out b t q =
-    let a = apply (begun b t) t q in
-    settle_upto-steps out a (length a.entries) ∙ apply-steps (begun b t) t q
+    let a = apply (begin_ask b t) t q in
+    settle_upto-steps out a (length a.entries) ∙ apply-steps (begin_ask b t) t q
 
 pub steps_counted : (p : Program) (s : State) (t : ℕ) → (step p s t).board.steps ≡ s.board.steps + 1
 unfolding step

@@ -44,8 +44,8 @@ stop b e = record b { ended = Some e }
 -- ---- printing
 
 -- the bytes are appended, but the output holds 2^24 bytes at most
-unfoldable pub printed : Board → ℕ → List ℕ → Board
-printed b t bytes =
+unfoldable pub after_print : Board → ℕ → List ℕ → Board
+after_print b t bytes =
     if nat_le (length b.output + length bytes) (2 ^ 24) then reply (record b { output = b.output ++ bytes }) t Answered else stop b OutputFull
 
 -- ---- buffers
@@ -172,11 +172,11 @@ unfoldable pub put_back : Board → Need → List ℤ → Board
 put_back b n values = if writes n.mode then record b { buffers = each_from (buffer_put n values) 0 b.buffers } else b
 
 -- the access at entry k, of this need, is closed with these numbers
-unfoldable pub closed : Board → ℕ → List ℤ → ℕ → Need → Board
-closed b t values k n = if length values == n.to - n.from then reply (to_stage (put_back b n values) k Done) t Answered else b
+unfoldable pub after_close : Board → ℕ → List ℤ → ℕ → Need → Board
+after_close b t values k n = if length values == n.to - n.from then reply (to_stage (put_back b n values) k Done) t Answered else b
 
 unfoldable pub close_entry : Board → ℕ → List ℤ → ℕ → Stage → List Need → Board
-close_entry b t values k Granted (n ∷ ns) = closed b t values k n
+close_entry b t values k Granted (n ∷ ns) = after_close b t values k n
 close_entry b t values k s ns = b
 
 unfoldable pub close_at : Board → ℕ → List ℤ → ℕ → Option Entry → Board
@@ -243,9 +243,9 @@ node_entry n s x =
 abbrev pub add_node : Board → ℕ → Entry → Board
 add_node b t e = reply (record b { entries = b.entries ++ e ∷ []; nodes = suc b.nodes }) t (Number b.nodes)
 
-unfoldable pub submitted : Board → ℕ → Submission → Option Queue → Board
-submitted b t s None = b
-submitted b t s (Some x) = if holds_together b s then add_node b t (node_entry b.nodes s x) else b
+unfoldable pub after_submit : Board → ℕ → Submission → Option Queue → Board
+after_submit b t s None = b
+after_submit b t s (Some x) = if holds_together b s then add_node b t (node_entry b.nodes s x) else b
 
 -- ---- waits
 
@@ -267,18 +267,18 @@ abbrev pub error_on : ℕ → List Entry → Option KernelError
 error_on q [] = None
 error_on q (e ∷ es) = or_later (error_in q e.work e.stage) (error_on q es)
 
-abbrev pub thrown : Board → ℕ → Option KernelError → Board
-thrown b t None = reply b t Answered
-thrown b t (Some e) = stop b (KernelFailed e)
+abbrev pub after_throw : Board → ℕ → Option KernelError → Board
+after_throw b t None = reply b t Answered
+after_throw b t (Some e) = stop b (KernelFailed e)
 
 unfoldable pub throw_queue : Board → ℕ → ℕ → Board
-throw_queue b t q = if nat_lt q (length b.queues) then thrown b t (error_on q b.entries) else b
+throw_queue b t q = if nat_lt q (length b.queues) then after_throw b t (error_on q b.entries) else b
 
 -- ---- threads
 
 -- a run has 64 threads at most
-unfoldable pub spawned : Board → ℕ → Board
-spawned b t =
+unfoldable pub after_spawn : Board → ℕ → Board
+after_spawn b t =
     if nat_lt (length b.waits) 64 then reply (record b { waits = b.waits ++ Ready ∷ [] }) t (Number (length b.waits)) else stop b (Terminated Threads)
 
 -- how a thread that halts ends the run
@@ -291,7 +291,7 @@ ending_by t (halt.TurnsSpent line) = TurnsSpent t line
 
 -- the ask's own effect, before anything settles. One that does not hold together has none, and no answer
 unfoldable pub apply : Board → ℕ → Ask → Board
-apply b t (Print bytes) = printed b t bytes
+apply b t (Print bytes) = after_print b t bytes
 apply b t (MakeBuffer m) = made_buffer b t m
 apply b t (MakeSub parent base range) = made_part b t parent base (product range)
 apply b t (EndBuffer r) = end_buffer b t r (slice_get b.buffers r)
@@ -299,11 +299,11 @@ apply b t (OpenHost n) = opened_host b t n
 apply b t (CloseHost k values) = close_found b t values (access_from 0 b.entries t k)
 apply b t (MakeContext device) = made_context b t
 apply b t (MakeQueue m) = made_queue b t m
-apply b t (Submit s) = submitted b t s (slice_get b.queues s.queue)
+apply b t (Submit s) = after_submit b t s (slice_get b.queues s.queue)
 apply b t (WaitNode n) = wait_if (nat_lt n b.nodes) b t (OnNode n)
 apply b t (WaitQueue q) = wait_if (nat_lt q (length b.queues)) b t (OnQueue q b.nodes)
 apply b t (ThrowQueue q) = throw_queue b t q
-apply b t (Spawn body captures) = spawned b t
+apply b t (Spawn body captures) = after_spawn b t
 apply b t (Join u) = wait_if (nat_lt u (length b.waits)) b t (OnThread u)
 apply b t (Finish v) = await b t (Finished v)
 apply b t (AskHalt h) = stop b (ending_by t h)
@@ -349,19 +349,19 @@ unfoldable pub give_all : Board → Board
 give_all b = record b { waits = map (given b) b.waits }
 
 -- the step is counted, and the thread's ask is made and not yet answered
-abbrev pub begun : Board → ℕ → Board
-begun b t = await (record b { steps = suc b.steps }) t Never
+abbrev pub begin_ask : Board → ℕ → Board
+begin_ask b t = await (record b { steps = suc b.steps }) t Never
 
 -- the ask has its effect, the entries settle, and the answers that are due are given
 unfoldable pub turn : OutcomeOf → Board → ℕ → Ask → Board
-turn out b t q = give_all (settle out (apply (begun b t) t q))
+turn out b t q = give_all (settle out (apply (begin_ask b t) t q))
 
 -- ---- a step
 
 -- a thread that the ask started stands at the end
-unfoldable pub grown : Board → Ask → List Thread → List Thread
-grown b (Spawn body captures) threads = if nat_lt (length threads) (length b.waits) then threads ++ new_thread body captures ∷ [] else threads
-grown b q threads = threads
+unfoldable pub threads_after : Board → Ask → List Thread → List Thread
+threads_after b (Spawn body captures) threads = if nat_lt (length threads) (length b.waits) then threads ++ new_thread body captures ∷ [] else threads
+threads_after b q threads = threads
 
 -- an answer that is due reaches its thread
 abbrev pub hear : Waits → Thread → Thread
@@ -378,11 +378,11 @@ abbrev pub once_heard : Waits → Waits
 once_heard (Due a) = Ready
 once_heard w = w
 
-abbrev pub answered : Board → List Thread → State
-answered b threads = record { board = record b { waits = map once_heard b.waits }; threads = hear_all b.waits threads }
+abbrev pub hear_answers : Board → List Thread → State
+hear_answers b threads = record { board = record b { waits = map once_heard b.waits }; threads = hear_all b.waits threads }
 
 abbrev pub after_turn : List Thread → Ask → Board → State
-after_turn threads q b = answered b (grown b q threads)
+after_turn threads q b = hear_answers b (threads_after b q threads)
 
 -- the state after a step of thread t
 unfoldable pub step : Program → State → ℕ → State

@@ -360,7 +360,7 @@ const KERNEL_ERROR_THROWN: Row = Row {
 
 #[test]
 fn kernel_error_thrown(rt: HostRuntime) -> Result<(), Fail> {
-    check(&rt, "kernel-error-thrown", &KERNEL_ERROR_THROWN)
+    check(&rt, "kernel-error-after_throw", &KERNEL_ERROR_THROWN)
 }
 
 const KERNEL_ERROR_AT_THE_END: Row = Row {

@@ -33,7 +33,7 @@ use Rattle.sy_onecopy.specs.State.{Board}
 use Rattle.sy_onecopy.specs.Before.{is_pending, is_done}
 use Rattle.sy_needs.specs.Elements.{is_written, writes_at}
 use Rattle.sy_onecopy.specs.Settle.{with_stage, await, reply, to_stage}
-use Rattle.sy_onecopy.specs.Step.{writes_if_fresh, printed, made_buffer, add_buffer, made_part, mark_ended, with_end, add_entry, end_entry, end_root, end_buffer, opened_host, access_entry, accesses, is_access, is_access_of, access_from, cell_put, buffer_put, put_back, closed, close_entry, close_at, close_found, made_context, made_queue, add_node, node_entry, submitted, wait_if, thrown, throw_queue, spawned, apply, error_on, error_in, or_later, is_root, count_of, is_root_need, are_root_needs, are_different, are_below, has_needs, has_count, live_elements, holds_together, is_node_on, new_buffer, part_buffer}
+use Rattle.sy_onecopy.specs.Step.{writes_if_fresh, after_print, made_buffer, add_buffer, made_part, mark_ended, with_end, add_entry, end_entry, end_root, end_buffer, opened_host, access_entry, accesses, is_access, is_access_of, access_from, cell_put, buffer_put, put_back, after_close, close_entry, close_at, close_found, made_context, made_queue, add_node, node_entry, after_submit, wait_if, after_throw, throw_queue, after_spawn, apply, error_on, error_in, or_later, is_root, count_of, is_root_need, are_root_needs, are_different, are_below, has_needs, has_count, live_elements, holds_together, is_node_on, new_buffer, part_buffer}
 use Rattle.sy_onecopy.specs.Sequence.{is_clear, has_open_node_on}
 use Rattle.sy_settling.specs.Orderly.{IsAt, IsPendingAt, waiter, is_idle, IsOrderly}
 use Rattle.sy_settling.proofs.ListLemmas.{get-changed_other, changed-append, each-changed, length-each, or_left, and_left, some_is, any-at, not_true}
@@ -64,9 +64,9 @@ branch : (a : Act) (k : ℕ) (v w : Bool) (y z : Board) {y' z' : Board} → v �
 branch a k true w y z {y' = y'} {z' = z'} h p q = p ∙ ap (λ u. if u then y' else z') h
 branch a k false w y z {y' = y'} {z' = z'} h p q = q ∙ ap (λ u. if u then y' else z') h
 
-printed-after : (b : Board) (a : Act) (k : ℕ) (e : Entry) (t : ℕ) (bytes : List ℕ) → Scene b a k e t → after a k (printed b t bytes) ≡ printed (after a k b) t bytes
-unfolding printed
-printed-after b a k e t bytes s =
+after_print-after : (b : Board) (a : Act) (k : ℕ) (e : Entry) (t : ℕ) (bytes : List ℕ) → Scene b a k e t → after a k (after_print b t bytes) ≡ after_print (after a k b) t bytes
+unfolding after_print
+after_print-after b a k e t bytes s =
     let v = nat_le (length b.output + length bytes) (2 ^ 24) in
     branch a k v v _ _ refl (await-after (record b { output = b.output ++ bytes }) a k t (Due Answered) (untold b a k e t s)) refl
 
@@ -229,9 +229,9 @@ unfolding buffer_put
 put-is b n values true = refl
 put-is b n values false = ap (λ l. build b l b.entries b.waits) (sym (mapped-kept b.buffers))
 
-pub closed-is : (b : Board) (n : Need) (values : List ℤ) (j : ℕ) → to_stage (put_back b n values) j stage.Done ≡ after (closing n values) j b
+pub after_close-is : (b : Board) (n : Need) (values : List ℤ) (j : ℕ) → to_stage (put_back b n values) j stage.Done ≡ after (closing n values) j b
 unfolding put_back
-closed-is b n values j = ap (λ z. to_stage z j stage.Done) (put-is b n values (writes n.mode))
+after_close-is b n values j = ap (λ z. to_stage z j stage.Done) (put-is b n values (writes n.mode))
 
 and_yes : (v : Bool) → (v && true) ≡ false → v ≡ false
 and_yes true h = h
@@ -260,19 +260,19 @@ closing-acts b j x n ns values o g st ne = record {
   };
 }
 
-closed-after : (b : Board) (a : Act) (k j : ℕ) (e x : Entry) (t : ℕ) (values : List ℤ) (n : Need) → Scene b a k e t → j ≢ k → Acts b (closing n values) j x → after a k (closed b t values j n) ≡ closed (after a k b) t values j n
-unfolding closed
-closed-after b a k j e x t values n s ne c =
+after_close-after : (b : Board) (a : Act) (k j : ℕ) (e x : Entry) (t : ℕ) (values : List ℤ) (n : Need) → Scene b a k e t → j ≢ k → Acts b (closing n values) j x → after a k (after_close b t values j n) ≡ after_close (after a k b) t values j n
+unfolding after_close
+after_close-after b a k j e x t values n s ne c =
     let v = length values == n.to - n.from in
     branch a k v v _ _ refl
     (await-after (to_stage (put_back b n values) j stage.Done) a k t (Due Answered) (untold b a k e t s)
     ∙ ap (λ z. reply z t Answered)
-    (ap (after a k) (closed-is b n values j) ∙ after-swap b a (closing n values) k j e x s.orderly (λ q. ne (sym q)) s.acts c ∙ sym (closed-is (after a k b) n values j)))
+    (ap (after a k) (after_close-is b n values j) ∙ after-swap b a (closing n values) k j e x s.orderly (λ q. ne (sym q)) s.acts c ∙ sym (after_close-is (after a k b) n values j)))
     refl
 
 close_entry-after : (b : Board) (a : Act) (k j : ℕ) (e x : Entry) (t : ℕ) (values : List ℤ) (st : Stage) (ns : List Need) → Scene b a k e t → j ≢ k → IsAt b.entries j x → x.stage ≡ st → x.needs ≡ ns → after a k (close_entry b t values j st ns) ≡ close_entry (after a k b) t values j st ns
 unfolding close_entry
-close_entry-after b a k j e x t values stage.Granted (n ∷ ns) s ne g hs hn = closed-after b a k j e x t values n s ne (closing-acts b j x n ns values s.orderly g hs hn)
+close_entry-after b a k j e x t values stage.Granted (n ∷ ns) s ne g hs hn = after_close-after b a k j e x t values n s ne (closing-acts b j x n ns values s.orderly g hs hn)
 close_entry-after b a k j e x t values stage.Granted [] s ne g hs hn = refl
 close_entry-after b a k j e x t values stage.Pending ns s ne g hs hn = refl
 close_entry-after b a k j e x t values stage.Done ns s ne g hs hn = refl
@@ -337,10 +337,10 @@ add_node-after b a k e t x s =
     await-after (record b { entries = b.entries ++ x ∷ []; nodes = suc b.nodes }) a k t (Due (Number b.nodes)) (untold b a k e t s)
     ∙ ap (λ l. reply (record (after a k b) { entries = l; nodes = suc b.nodes }) t (Number b.nodes)) (changed-append (with_stage a.stage) k b.entries (x ∷ []) (within b a k e t s))
 
-submitted-after : (b : Board) (a : Act) (k : ℕ) (e : Entry) (t : ℕ) (m : Submission) (o : Option Queue) → Scene b a k e t → after a k (submitted b t m o) ≡ submitted (after a k b) t m o
-unfolding submitted
-submitted-after b a k e t m None s = refl
-submitted-after b a k e t m (Some x) s = branch a k _ _ _ _ (sym (holds_same b a k m)) (add_node-after b a k e t (node_entry b.nodes m x) s) refl
+after_submit-after : (b : Board) (a : Act) (k : ℕ) (e : Entry) (t : ℕ) (m : Submission) (o : Option Queue) → Scene b a k e t → after a k (after_submit b t m o) ≡ after_submit (after a k b) t m o
+unfolding after_submit
+after_submit-after b a k e t m None s = refl
+after_submit-after b a k e t m (Some x) s = branch a k _ _ _ _ (sym (holds_same b a k m)) (add_node-after b a k e t (node_entry b.nodes m x) s) refl
 
 -- ---- waits
 
@@ -363,9 +363,9 @@ errors-changed q s zero (x ∷ xs) e g h =
     ap (λ o. or_later o (error_on q xs)) (no_error q x.work s no_node ∙ sym (no_error q x.work x.stage no_node))
 errors-changed q s (suc k) (x ∷ xs) e g h = ap (or_later (error_in q x.work x.stage)) (errors-changed q s k xs e g h)
 
-thrown-after : (b : Board) (a : Act) (k : ℕ) (e : Entry) (t : ℕ) (o : Option KernelError) → Scene b a k e t → after a k (thrown b t o) ≡ thrown (after a k b) t o
-thrown-after b a k e t None s = await-after b a k t (Due Answered) (untold b a k e t s)
-thrown-after b a k e t (Some f) s = refl
+after_throw-after : (b : Board) (a : Act) (k : ℕ) (e : Entry) (t : ℕ) (o : Option KernelError) → Scene b a k e t → after a k (after_throw b t o) ≡ after_throw (after a k b) t o
+after_throw-after b a k e t None s = await-after b a k t (Due Answered) (untold b a k e t s)
+after_throw-after b a k e t (Some f) s = refl
 
 -- the entry is no node of a queue whose nodes are done
 pub off_queue : (q k : ℕ) (xs : List Entry) (e : Entry) → IsAt xs k e → is_done e.stage ≡ false → has_open_node_on xs q ≡ false → is_node_on q e.work ≡ false
@@ -378,8 +378,8 @@ unfolding throw_queue
 throw-after b a k e t q s h =
     let v = nat_lt q (length b.queues) in
     branch a k v v _ _ refl
-    (thrown-after b a k e t (error_on q b.entries) s
-    ∙ ap (thrown (after a k b) t) (sym (errors-changed q a.stage k b.entries e s.acts.at (off_queue q k b.entries e s.acts.at s.acts.undone h))))
+    (after_throw-after b a k e t (error_on q b.entries) s
+    ∙ ap (after_throw (after a k b) t) (sym (errors-changed q a.stage k b.entries e s.acts.at (off_queue q k b.entries e s.acts.at s.acts.undone h))))
     refl
 
 -- ---- threads
@@ -392,9 +392,9 @@ told-append : (d : Option (ℕ × Waits)) (ws : List Waits) (w : Waits) → ((x 
 told-append None ws w h = refl
 told-append (Some x) ws w h = set-append_left ws (w ∷ []) x.0 x.1 (h x refl)
 
-spawned-after : (b : Board) (a : Act) (k : ℕ) (e : Entry) (t : ℕ) → Scene b a k e t → after a k (spawned b t) ≡ spawned (after a k b) t
-unfolding spawned
-spawned-after b a k e t s =
+after_spawn-after : (b : Board) (a : Act) (k : ℕ) (e : Entry) (t : ℕ) → Scene b a k e t → after a k (after_spawn b t) ≡ after_spawn (after a k b) t
+unfolding after_spawn
+after_spawn-after b a k e t s =
     let c = after a k b in
     let n = told-length a.due b.waits in
     let there : (d : ℕ × Waits) → a.due ≡ Some d → d.0 < length b.waits = λ d p. slice_get_within b.waits d.0 OnEntry (s.orderly.awaited k d.0 e (s.acts.at, s.pending) (s.acts.of.tells d p)) in
@@ -408,7 +408,7 @@ spawned-after b a k e t s =
 
 pub apply-after : (b : Board) (a : Act) (k : ℕ) (e : Entry) (t : ℕ) (q : Ask) → Scene b a k e t → is_clear b q ≡ true → after a k (apply b t q) ≡ apply (after a k b) t q
 unfolding apply
-apply-after b a k e t (Print bytes) s h = printed-after b a k e t bytes s
+apply-after b a k e t (Print bytes) s h = after_print-after b a k e t bytes s
 apply-after b a k e t (MakeBuffer m) s h = made_buffer-after b a k e t m s
 apply-after b a k e t (MakeSub parent base range) s h = made_part-after b a k e t parent base (product range) s
 apply-after b a k e t (EndBuffer r) s h = end_buffer-after b a k e t r s
@@ -416,11 +416,11 @@ apply-after b a k e t (OpenHost n) s h = opened_host-after b a k e t n s
 apply-after b a k e t (CloseHost i values) s h = close-after b a k e t i values s
 apply-after b a k e t (MakeContext device) s h = made_context-after b a k e t s
 apply-after b a k e t (MakeQueue m) s h = made_queue-after b a k e t m s
-apply-after b a k e t (Submit m) s h = submitted-after b a k e t m (slice_get b.queues m.queue) s
+apply-after b a k e t (Submit m) s h = after_submit-after b a k e t m (slice_get b.queues m.queue) s
 apply-after b a k e t (WaitNode n) s h = wait_if-after _ _ b a k e t (OnNode n) refl s
 apply-after b a k e t (WaitQueue q) s h = wait_if-after _ _ b a k e t (OnQueue q b.nodes) refl s
 apply-after b a k e t (ThrowQueue q) s h = throw-after b a k e t q s (not_true (has_open_node_on b.entries q) h)
-apply-after b a k e t (Spawn body captures) s h = spawned-after b a k e t s
+apply-after b a k e t (Spawn body captures) s h = after_spawn-after b a k e t s
 apply-after b a k e t (Join u) s h = wait_if-after _ _ b a k e t (OnThread u) (ap (nat_lt u) (sym (told-length a.due b.waits))) s
 apply-after b a k e t (Finish v) s h = await-after b a k t (Finished v) (untold b a k e t s)
 apply-after b a k e t (Halt x) s h = refl

@@ -12,7 +12,7 @@ use Rattle.sy_onecopy.specs.declared.Waits.{Waits}
 use Rattle.sy_onecopy.specs.declared.Waits.TheVariants.{Due, Ready as NoWait, OnEntry, OnNode, OnQueue, OnThread, Never, Finished}
 use Rattle.sy_onecopy.specs.State.{Board}
 use Rattle.sy_onecopy.specs.Settle.{await, effect, settle}
-use Rattle.sy_onecopy.specs.Step.{apply, begun, is_due, has_finished, given, give_all, once_heard, turn, node_done, queue_done}
+use Rattle.sy_onecopy.specs.Step.{apply, begin_ask, is_due, has_finished, given, give_all, once_heard, turn, node_done, queue_done}
 use Rattle.sy_onecopy.specs.Sequence.{is_clear}
 use Rattle.sy_settling.specs.Orderly.{is_idle, IsOrderly, MayAsk, heard, quiesce}
 use Rattle.sy_settling.proofs.ListLemmas.{set_is, set-same, get-set, get-set_other, some_is}
@@ -22,8 +22,8 @@ use Rattle.sy_settling.proofs.OrderlyEffectLemmas.{act_at, effect-act}
 use Rattle.sy_settling.proofs.SettleLemmas.{settle-keeps, orderly-settle}
 use Rattle.sy_settling.proofs.AskLemmas.{untold}
 use Rattle.sy_settling.proofs.OrderlyAskLemmas.{Lasts, lasts-trans, lasts-same, lasts-after, buffers-stay, waits-set, orderly-same, apply-follows}
-use Rattle.sy_settling.proofs.SettledAskLemmas.{scene, may_ask-effect, ask-settle, begun-settle, await-settle}
-use Rattle.sy_settling.proofs.LegalOrderLemmas.{orderly-begun, orderly-apply, clear_begun, idle_begun}
+use Rattle.sy_settling.proofs.SettledAskLemmas.{scene, may_ask-effect, ask-settle, begin_ask-settle, await-settle}
+use Rattle.sy_settling.proofs.LegalOrderLemmas.{orderly-begin_ask, orderly-apply, clear_begun, idle_begun}
 use Rattle.sy_settling.proofs.WaitLemmas.{awaits-swap, apply-told}
 
 -- ---- waits that are over
@@ -159,12 +159,12 @@ record Asking (d : Board) (t : ℕ) (q : Ask) : Type 0 where
 
 -- the board after the ask, before answers are given
 went : OutcomeOf → ℕ → Ask → Board → Board
-went out t q d = settle out (apply (begun d t) t q)
+went out t q d = settle out (apply (begin_ask d t) t q)
 
 asking_idle : (d : Board) (t : ℕ) (q : Ask) → Asking d t q → is_idle (slice_get d.waits t) ≡ true
 asking_idle d t q a = ap is_idle a.ready
 
-asking_may : (d : Board) (t : ℕ) (q : Ask) → Asking d t q → MayAsk (begun d t) t q
+asking_may : (d : Board) (t : ℕ) (q : Ask) → Asking d t q → MayAsk (begin_ask d t) t q
 asking_may d t q a = record { idle = idle_begun d t (asking_idle d t q a); clear = clear_begun d t q a.clear }
 
 apply-still : (b : Board) (u t : ℕ) (w : Waits) (q : Ask) → u ≢ t → is_idle (slice_get b.waits t) ≡ true → slice_get b.waits u ≡ Some w → slice_get (apply b t q).waits u ≡ Some w
@@ -175,24 +175,24 @@ apply-still b u t w q ne i g =
     ap (λ z. slice_get z.waits u) (ap (λ z. apply z t q) (sym same) ∙ apply-told b u t w q ne lt)
     ∙ get-set (apply b t q).waits u w (omega arith)
 
-begun-lasts : (d : Board) (t : ℕ) → Lasts d (begun d t)
-begun-lasts d t = lasts-same d (begun d t) refl (omega arith) (omega (arith, length-set d.waits t Never))
+begin_ask-lasts : (d : Board) (t : ℕ) → Lasts d (begin_ask d t)
+begin_ask-lasts d t = lasts-same d (begin_ask d t) refl (omega arith) (omega (arith, length-set d.waits t Never))
 
-orderly_asked : (d : Board) (t : ℕ) (q : Ask) → Asking d t q → IsOrderly (apply (begun d t) t q)
-orderly_asked d t q a = orderly-apply (begun d t) t q (orderly-begun d t a.orderly (asking_idle d t q a)) (asking_may d t q a)
+orderly_asked : (d : Board) (t : ℕ) (q : Ask) → Asking d t q → IsOrderly (apply (begin_ask d t) t q)
+orderly_asked d t q a = orderly-apply (begin_ask d t) t q (orderly-begin_ask d t a.orderly (asking_idle d t q a)) (asking_may d t q a)
 
-asked-still : (d : Board) (u t : ℕ) (w : Waits) (q : Ask) → Asking d t q → u ≢ t → slice_get d.waits u ≡ Some w → slice_get (apply (begun d t) t q).waits u ≡ Some w
-asked-still d u t w q a ne g = apply-still (begun d t) u t w q ne (asking_may d t q a).idle (get-set_other d.waits t u Never ne ∙ g)
+asked-still : (d : Board) (u t : ℕ) (w : Waits) (q : Ask) → Asking d t q → u ≢ t → slice_get d.waits u ≡ Some w → slice_get (apply (begin_ask d t) t q).waits u ≡ Some w
+asked-still d u t w q a ne g = apply-still (begin_ask d t) u t w q ne (asking_may d t q a).idle (get-set_other d.waits t u Never ne ∙ g)
 
 went-still : (out : OutcomeOf) (d : Board) (u t : ℕ) (w : Waits) (q : Ask) → Asking d t q → u ≢ t → is_idle (Some w) ≡ true → slice_get d.waits u ≡ Some w → slice_get (went out t q d).waits u ≡ Some w
 unfolding went
-went-still out d u t w q a ne i g = settle-still out (apply (begun d t) t q) u w (orderly_asked d t q a) i (asked-still d u t w q a ne g)
+went-still out d u t w q a ne i g = settle-still out (apply (begin_ask d t) t q) u w (orderly_asked d t q a) i (asked-still d u t w q a ne g)
 
 went-lasts : (out : OutcomeOf) (d : Board) (t : ℕ) (q : Ask) → Asking d t q → Lasts d (went out t q d)
 unfolding went
 went-lasts out d t q a =
-    let c = apply (begun d t) t q in
-    lasts-trans d (begun d t) (settle out c) (begun-lasts d t) (lasts-trans (begun d t) c (settle out c) (apply-follows (begun d t) t q (asking_may d t q a).idle).lasts (settle-lasts out c (orderly_asked d t q a)))
+    let c = apply (begin_ask d t) t q in
+    lasts-trans d (begin_ask d t) (settle out c) (begin_ask-lasts d t) (lasts-trans (begin_ask d t) c (settle out c) (apply-follows (begin_ask d t) t q (asking_may d t q a).idle).lasts (settle-lasts out c (orderly_asked d t q a)))
 
 went-finished : (out : OutcomeOf) (d : Board) (t : ℕ) (q : Ask) (v : ℕ) → Asking d t q → has_finished (slice_get d.waits v) ≡ true → has_finished (slice_get (went out t q d).waits v) ≡ true
 went-finished out d t q v a h =
@@ -203,10 +203,10 @@ went-finished out d t q v a h =
 went-told : (out : OutcomeOf) (d : Board) (u t : ℕ) (w r : Waits) (q : Ask) → Asking d t q → u ≢ t → is_idle (Some w) ≡ true → slice_get d.waits u ≡ Some w → went out t q (await d u r) ≡ await (went out t q d) u r
 unfolding went
 went-told out d u t w r q a ne i g =
-    let c = apply (begun d t) t q in
+    let c = apply (begin_ask d t) t q in
     let at = get-set_other d.waits t u Never ne ∙ g in
     ap (λ z. settle out (apply z t q)) (awaits-swap (record d { steps = suc d.steps }) u t r Never ne)
-    ∙ ap (settle out) (apply-told (begun d t) u t r q ne (slice_get_within (begun d t).waits u w at))
+    ∙ ap (settle out) (apply-told (begin_ask d t) u t r q ne (slice_get_within (begin_ask d t).waits u w at))
     ∙ await-settle out c u r (orderly_asked d t q a) (ap is_idle (asked-still d u t w q a ne g) ∙ i)
 
 same_told : (d : Board) (u : ℕ) (w : Waits) → slice_get d.waits u ≡ Some w → await d u w ≡ d
@@ -340,8 +340,8 @@ went-settle : (out : OutcomeOf) (b : Board) (t : ℕ) (q : Ask) → Asking b t q
 unfolding went
 went-settle out b t q a =
     let i = asking_idle b t q a in
-    ap (λ z. settle out (apply z t q)) (sym (begun-settle out b t a.orderly i))
-    ∙ ask-settle out (begun b t) t q (orderly-begun b t a.orderly i) (asking_may b t q a)
+    ap (λ z. settle out (apply z t q)) (sym (begin_ask-settle out b t a.orderly i))
+    ∙ ask-settle out (begin_ask b t) t q (orderly-begin_ask b t a.orderly i) (asking_may b t q a)
 
 settle-asking : (out : OutcomeOf) (b : Board) (t : ℕ) (q : Ask) → Asking b t q → Asking (settle out b) t q
 settle-asking out b t q a = record {

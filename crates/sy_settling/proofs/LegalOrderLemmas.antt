@@ -12,7 +12,7 @@ use Rattle.sy_onecopy.specs.declared.Waits.{Waits}
 use Rattle.sy_onecopy.specs.declared.Waits.TheVariants.{Ready, Due, OnEntry, OnNode, OnQueue, OnThread, Never, Finished}
 use Rattle.sy_onecopy.specs.State.{Board, State, opening, start, next_ask}
 use Rattle.sy_onecopy.specs.Settle.{settle}
-use Rattle.sy_onecopy.specs.Step.{apply, begun, is_due, given, give_all, turn, once_heard, step}
+use Rattle.sy_onecopy.specs.Step.{apply, begin_ask, is_due, given, give_all, turn, once_heard, step}
 use Rattle.sy_onecopy.specs.Sequence.{goes_on, ready_at, is_clear, may_step, is_legal, seq_from, seq}
 use Rattle.sy_settling.specs.Orderly.{is_idle, IsOrderly, MayAsk}
 use Rattle.sy_settling.proofs.ListLemmas.{get-set, and_left, and_right, some_is}
@@ -52,8 +52,8 @@ orderly-heard b o =
     let c : Board = record b { waits = map once_heard b.waits } in
     orderly-same b c refl (buffers-stay b.buffers) (waits-map b c once_heard refl (omega arith) refl heard_queued) o
 
-pub orderly-begun : (b : Board) (t : ℕ) → IsOrderly b → is_idle (slice_get b.waits t) ≡ true → IsOrderly (begun b t)
-orderly-begun b t o i = orderly-same b (begun b t) refl (buffers-stay b.buffers) (waits-set b (begun b t) t Never refl (omega arith) i refl) o
+pub orderly-begin_ask : (b : Board) (t : ℕ) → IsOrderly b → is_idle (slice_get b.waits t) ≡ true → IsOrderly (begin_ask b t)
+orderly-begin_ask b t o i = orderly-same b (begin_ask b t) refl (buffers-stay b.buffers) (waits-set b (begin_ask b t) t Never refl (omega arith) i refl) o
 
 pub orderly-apply : (b : Board) (t : ℕ) (q : Ask) → IsOrderly b → MayAsk b t q → IsOrderly (apply b t q)
 orderly-apply b t q o m = (apply-follows b t q m.idle).orderly o
@@ -97,14 +97,14 @@ legal_clear p s t h =
     let m = and_left (may_step p s t) (nat_lt s.board.steps (2 ^ 24)) h in
     and_right (ready_at (slice_get s.board.waits t)) (is_clear s.board (next_ask p s t)) (and_right (goes_on s.board) (ready_at (slice_get s.board.waits t) && is_clear s.board (next_ask p s t)) m)
 
-pub clear_begun : (b : Board) (t : ℕ) (q : Ask) → is_clear b q ≡ true → is_clear (begun b t) q ≡ true
+pub clear_begun : (b : Board) (t : ℕ) (q : Ask) → is_clear b q ≡ true → is_clear (begin_ask b t) q ≡ true
 clear_begun b t (ThrowQueue q) h = h
 clear_begun b t q h = refl
 
-pub idle_begun : (b : Board) (t : ℕ) → is_idle (slice_get b.waits t) ≡ true → is_idle (slice_get (begun b t).waits t) ≡ true
+pub idle_begun : (b : Board) (t : ℕ) → is_idle (slice_get b.waits t) ≡ true → is_idle (slice_get (begin_ask b t).waits t) ≡ true
 idle_begun b t i = ap is_idle (get-set b.waits t Never (idle_within b.waits t i))
 
-pub legal_may_ask : (p : Program) (s : State) (t : ℕ) → is_legal p s t ≡ true → MayAsk (begun s.board t) t (next_ask p s t)
+pub legal_may_ask : (p : Program) (s : State) (t : ℕ) → is_legal p s t ≡ true → MayAsk (begin_ask s.board t) t (next_ask p s t)
 legal_may_ask p s t h = record {
   idle = idle_begun s.board t (legal_idle p s t h);
   clear = clear_begun s.board t (next_ask p s t) (legal_clear p s t h);
@@ -113,8 +113,8 @@ legal_may_ask p s t h = record {
 orderly-step : (p : Program) (s : State) (t : ℕ) → is_legal p s t ≡ true → IsOrderly s.board → IsOrderly (step p s t).board
 unfolding step turn
 orderly-step p s t h o =
-    let b = begun s.board t in
-    let ob = orderly-begun s.board t o (legal_idle p s t h) in
+    let b = begin_ask s.board t in
+    let ob = orderly-begin_ask s.board t o (legal_idle p s t h) in
     let oc = orderly-apply b t (next_ask p s t) ob (legal_may_ask p s t h) in
     let c = settle p.outcome (apply b t (next_ask p s t)) in
     orderly-heard (give_all c) (orderly-give c (orderly-settle p.outcome (apply b t (next_ask p s t)) oc))
@@ -132,6 +132,6 @@ seq_orderly p s (t ∷ ts) u o h = elim (cases_Bool (is_legal p s t)) [
 pub legal_orderly : (p : Program) (order : List ℕ) (s : State) → seq p order ≡ Some s → IsOrderly s.board
 legal_orderly p order s h = seq_orderly p (start p) order s orderly-opening h
 
-pub legal_settle : (p : Program) (order : List ℕ) (s : State) (t : ℕ) (out : OutcomeOf) → seq p order ≡ Some s → is_legal p s t ≡ true → settle out (apply (settle out (begun s.board t)) t (next_ask p s t)) ≡ settle out (apply (begun s.board t) t (next_ask p s t))
+pub legal_settle : (p : Program) (order : List ℕ) (s : State) (t : ℕ) (out : OutcomeOf) → seq p order ≡ Some s → is_legal p s t ≡ true → settle out (apply (settle out (begin_ask s.board t)) t (next_ask p s t)) ≡ settle out (apply (begin_ask s.board t) t (next_ask p s t))
 legal_settle p order s t out h l =
-    ask-settle out (begun s.board t) t (next_ask p s t) (orderly-begun s.board t (legal_orderly p order s h) (legal_idle p s t l)) (legal_may_ask p s t l)
+    ask-settle out (begin_ask s.board t) t (next_ask p s t) (orderly-begin_ask s.board t (legal_orderly p order s h) (legal_idle p s t l)) (legal_may_ask p s t l)

@@ -34,7 +34,7 @@ use Rattle.sy_onecopy.specs.Outcome.{run_of, values_at, values_of, input, inputs
 use Rattle.sy_needs.specs.Elements.{at_start}
 use Rattle.sy_needs.specs.Each.{each_from}
 use Rattle.sy_onecopy.specs.Settle.{with_stage, await, reply}
-use Rattle.sy_onecopy.specs.Step.{writes_if_fresh, node_done, queue_done, is_past, is_node_on, number_of, printed, made_buffer, made_part, mark_ended, with_end, add_entry, end_entry, end_root, end_buffer, opened_host, access_entry, accesses, access_from, closed, close_entry, close_at, close_found, made_context, made_queue, add_node, node_entry, submitted, wait_if, thrown, throw_queue, spawned, apply, error_on, is_root, count_of, is_root_need, are_root_needs, are_different, are_below, has_needs, has_count, live_elements, holds_together}
+use Rattle.sy_onecopy.specs.Step.{writes_if_fresh, node_done, queue_done, is_past, is_node_on, number_of, after_print, made_buffer, made_part, mark_ended, with_end, add_entry, end_entry, end_root, end_buffer, opened_host, access_entry, accesses, access_from, after_close, close_entry, close_at, close_found, made_context, made_queue, add_node, node_entry, after_submit, wait_if, after_throw, throw_queue, after_spawn, apply, error_on, is_root, count_of, is_root_need, are_root_needs, are_different, are_below, has_needs, has_count, live_elements, holds_together}
 use Rattle.sy_settling.specs.Orderly.{IsAt, IsPendingAt, waiter, is_idle, are_there, NeedsWhole, IsOrderly}
 use Rattle.sy_settling.proofs.ListLemmas.{get-changed, get-changed_other, length-changed, get-append, get-set, get-set_other, set_is, and_left, and_right, and_true, some_is, or_true, or_rest, or_start, no_right}
 use Rattle.sy_settling.proofs.EffectLemmas.{Act, Seen, seen, seen-kept, after}
@@ -42,7 +42,7 @@ use Rattle.sy_settling.proofs.ElementLemmas.{meet_comm}
 use Rattle.sy_settling.proofs.FreeLemmas.{free-pending, free-unheld, pending-open, strangers, free-changed}
 use Rattle.sy_settling.proofs.OrderlyEffectLemmas.{need_of, Acts, orderly-after, Ready}
 use Rattle.sy_settling.proofs.SettleLemmas.{is_free-front}
-use Rattle.sy_settling.proofs.AskLemmas.{told-length, not_pending, closing, closed-is, closing-acts}
+use Rattle.sy_settling.proofs.AskLemmas.{told-length, not_pending, closing, after_close-is, closing-acts}
 
 -- ---- buffers and waits that go on
 
@@ -367,8 +367,8 @@ follows-added b c e n g w = record {
 
 -- ---- an open host access is closed
 
-closed-other : (b : Board) (j k : ℕ) (x e : Entry) → IsAt b.entries j x → x.stage ≡ stage.Granted → Ready b k e → j ≢ k
-closed-other b j k x e g st r q =
+after_close-other : (b : Board) (j k : ℕ) (x e : Entry) → IsAt b.entries j x → x.stage ≡ stage.Granted → Ready b k e → j ≢ k
+after_close-other b j k x e g st r q =
     let is : x ≡ e = some_is (sym g ∙ ap (slice_get b.entries) q ∙ r.at) in
     let z : false ≡ true = sym (ap is_pending st) ∙ ap (λ y. is_pending y.stage) is ∙ free-pending b.entries k e r.free in
     absurd cc
@@ -378,10 +378,10 @@ follows-after b a j x st c g = record {
   sees = λ k e r.
       (let ca = c r.orderly in
       let pe = free-pending b.entries k e r.free in
-      let m = strangers b.entries j k x e (closed-other b j k x e g st r) g r.at ca.undone (pending-open e.stage pe) ca.unheld (free-unheld b.entries k e r.free) in
+      let m = strangers b.entries j k x e (after_close-other b j k x e g st r) g r.at ca.undone (pending-open e.stage pe) ca.unheld (free-unheld b.entries k e r.free) in
       seen-kept a.cells x.needs x.place b.buffers e.needs e.work e.place ca.of.keeps (meet_comm x.needs e.needs x.place e.place m) (λ t i w. r.orderly.whole k t i e (r.at, pe) w));
   stays = λ k e r. (
-    get-changed_other (with_stage a.stage) j k b.entries (λ q. closed-other b j k x e g st r (sym q)) ∙ r.at,
+    get-changed_other (with_stage a.stage) j k b.entries (λ q. after_close-other b j k x e g st r (sym q)) ∙ r.at,
     free-changed a.stage j k b.entries x e g (c r.orderly).undone r.free,
   );
   orderly = λ o. orderly-after b a j x o (c o);
@@ -390,9 +390,9 @@ follows-after b a j x st c g = record {
 
 -- ---- each ask
 
-printed-follows : (b : Board) (t : ℕ) (bytes : List ℕ) → is_idle (slice_get b.waits t) ≡ true → Follows b (printed b t bytes)
-unfolding printed
-printed-follows b t bytes i =
+after_print-follows : (b : Board) (t : ℕ) (bytes : List ℕ) → is_idle (slice_get b.waits t) ≡ true → Follows b (after_print b t bytes)
+unfolding after_print
+after_print-follows b t bytes i =
     follows-if b _ _ (nat_le (length b.output + length bytes) (2 ^ 24))
     (λ h. follows-same b _ refl (buffers-stay b.buffers) (waits-set b _ t _ refl (omega arith) i refl))
     (follows-same b _ refl (buffers-stay b.buffers) (waits-stay b _ refl (omega arith)))
@@ -482,19 +482,19 @@ opened_host-follows : (b : Board) (t : ℕ) (n : Need) → is_idle (slice_get b.
 unfolding opened_host
 opened_host-follows b t n i = follows-if b _ b (is_root_need b.buffers n) (λ h. opened-follows b t n i (root_need_there b.buffers n h) (accesses b.entries t)) (follows-itself b)
 
-closed-follows : (b : Board) (t j : ℕ) (values : List ℤ) (x : Entry) (n : Need) (ns : List Need) → is_idle (slice_get b.waits t) ≡ true → IsAt b.entries j x → x.stage ≡ stage.Granted → x.needs ≡ n ∷ ns → Follows b (closed b t values j n)
-unfolding closed
-closed-follows b t j values x n ns i g st hn =
+after_close-follows : (b : Board) (t j : ℕ) (values : List ℤ) (x : Entry) (n : Need) (ns : List Need) → is_idle (slice_get b.waits t) ≡ true → IsAt b.entries j x → x.stage ≡ stage.Granted → x.needs ≡ n ∷ ns → Follows b (after_close b t values j n)
+unfolding after_close
+after_close-follows b t j values x n ns i g st hn =
     let a = closing n values in
     let c = after a j b in
     follows-if b _ b (length values == n.to - n.from)
-    (λ h. subst (λ z. Follows b (reply z t Answered)) (sym (closed-is b n values j))
+    (λ h. subst (λ z. Follows b (reply z t Answered)) (sym (after_close-is b n values j))
     (follows-trans b c _ (follows-after b a j x st (λ o. closing-acts b j x n ns values o g st hn) g) (follows-same c _ refl (buffers-stay c.buffers) (waits-set c _ t _ refl (omega arith) i refl))))
     (follows-itself b)
 
 close_entry-follows : (b : Board) (t j : ℕ) (values : List ℤ) (x : Entry) (s : Stage) (ns : List Need) → is_idle (slice_get b.waits t) ≡ true → IsAt b.entries j x → x.stage ≡ s → x.needs ≡ ns → Follows b (close_entry b t values j s ns)
 unfolding close_entry
-close_entry-follows b t j values x stage.Granted (n ∷ ns) i g hs hn = closed-follows b t j values x n ns i g hs hn
+close_entry-follows b t j values x stage.Granted (n ∷ ns) i g hs hn = after_close-follows b t j values x n ns i g hs hn
 close_entry-follows b t j values x stage.Granted [] i g hs hn = follows-itself b
 close_entry-follows b t j values x stage.Pending ns i g hs hn = follows-itself b
 close_entry-follows b t j values x stage.Done ns i g hs hn = follows-itself b
@@ -554,22 +554,22 @@ added-follows b t m x i h =
     } in
     follows-added b c (node_entry b.nodes m x) new (buffers-stay b.buffers) (waits-set b _ t _ refl (omega arith) i refl)
 
-submitted-follows : (b : Board) (t : ℕ) (m : Submission) (o : Option Queue) → is_idle (slice_get b.waits t) ≡ true → Follows b (submitted b t m o)
-unfolding submitted
-submitted-follows b t m None i = follows-itself b
-submitted-follows b t m (Some x) i = follows-if b _ b (holds_together b m) (λ h. added-follows b t m x i (holds_there b m h)) (follows-itself b)
+after_submit-follows : (b : Board) (t : ℕ) (m : Submission) (o : Option Queue) → is_idle (slice_get b.waits t) ≡ true → Follows b (after_submit b t m o)
+unfolding after_submit
+after_submit-follows b t m None i = follows-itself b
+after_submit-follows b t m (Some x) i = follows-if b _ b (holds_together b m) (λ h. added-follows b t m x i (holds_there b m h)) (follows-itself b)
 
 wait_if-follows : (v : Bool) (b : Board) (t : ℕ) (w : Waits) → ((q n : ℕ) → w ≡ OnQueue q n → n ≤ b.nodes) → is_idle (slice_get b.waits t) ≡ true → Follows b (wait_if v b t w)
 wait_if-follows true b t w k i = follows-same b _ refl (buffers-stay b.buffers) (waits-set_to b _ t w refl (omega arith) i k)
 wait_if-follows false b t w k i = follows-itself b
 
-thrown-follows : (b : Board) (t : ℕ) (o : Option KernelError) → is_idle (slice_get b.waits t) ≡ true → Follows b (thrown b t o)
-thrown-follows b t None i = follows-same b _ refl (buffers-stay b.buffers) (waits-set b _ t _ refl (omega arith) i refl)
-thrown-follows b t (Some f) i = follows-same b _ refl (buffers-stay b.buffers) (waits-stay b _ refl (omega arith))
+after_throw-follows : (b : Board) (t : ℕ) (o : Option KernelError) → is_idle (slice_get b.waits t) ≡ true → Follows b (after_throw b t o)
+after_throw-follows b t None i = follows-same b _ refl (buffers-stay b.buffers) (waits-set b _ t _ refl (omega arith) i refl)
+after_throw-follows b t (Some f) i = follows-same b _ refl (buffers-stay b.buffers) (waits-stay b _ refl (omega arith))
 
 throw_queue-follows : (b : Board) (t q : ℕ) → is_idle (slice_get b.waits t) ≡ true → Follows b (throw_queue b t q)
 unfolding throw_queue
-throw_queue-follows b t q i = follows-if b _ b (nat_lt q (length b.queues)) (λ h. thrown-follows b t (error_on q b.entries) i) (follows-itself b)
+throw_queue-follows b t q i = follows-if b _ b (nat_lt q (length b.queues)) (λ h. after_throw-follows b t (error_on q b.entries) i) (follows-itself b)
 
 grown_queued : (xs : List Waits) (m : ℕ) → ((u q n : ℕ) → slice_get xs u ≡ Some (OnQueue q n) → n ≤ m) → (u q n : ℕ) → slice_get (xs ++ NoWait ∷ []) u ≡ Some (OnQueue q n) → n ≤ m
 grown_queued [] m o zero q n g = absurd cc
@@ -577,8 +577,8 @@ grown_queued [] m o (suc u) q n g = absurd cc
 grown_queued (x ∷ xs) m o zero q n g = o zero q n g
 grown_queued (x ∷ xs) m o (suc u) q n g = grown_queued xs m (λ v r j h. o (suc v) r j h) u q n g
 
-waits-grown : (b c : Board) (t : ℕ) (w : Waits) → c.waits ≡ set (b.waits ++ NoWait ∷ []) t w → b.nodes ≤ c.nodes → is_idle (slice_get b.waits t) ≡ true → is_calm w ≡ true → WaitsGo b c
-waits-grown b c t w e m i k =
+waits-threads_after : (b c : Board) (t : ℕ) (w : Waits) → c.waits ≡ set (b.waits ++ NoWait ∷ []) t w → b.nodes ≤ c.nodes → is_idle (slice_get b.waits t) ≡ true → is_calm w ≡ true → WaitsGo b c
+waits-threads_after b c t w e m i k =
     let ws = b.waits ++ NoWait ∷ [] in
     let j : is_idle (slice_get ws t) ≡ true = ap is_idle (get-append b.waits (NoWait ∷ []) t (idle_within b.waits t i)) ∙ i in
     record {
@@ -588,16 +588,16 @@ waits-grown b c t w e m i k =
       nodes = m;
     }
 
-spawned-follows : (b : Board) (t : ℕ) → is_idle (slice_get b.waits t) ≡ true → Follows b (spawned b t)
-unfolding spawned
-spawned-follows b t i =
+after_spawn-follows : (b : Board) (t : ℕ) → is_idle (slice_get b.waits t) ≡ true → Follows b (after_spawn b t)
+unfolding after_spawn
+after_spawn-follows b t i =
     follows-if b _ _ (nat_lt (length b.waits) 64)
-    (λ h. follows-same b _ refl (buffers-stay b.buffers) (waits-grown b _ t _ refl (omega arith) i refl))
+    (λ h. follows-same b _ refl (buffers-stay b.buffers) (waits-threads_after b _ t _ refl (omega arith) i refl))
     (follows-same b _ refl (buffers-stay b.buffers) (waits-stay b _ refl (omega arith)))
 
 pub apply-follows : (b : Board) (t : ℕ) (q : Ask) → is_idle (slice_get b.waits t) ≡ true → Follows b (apply b t q)
 unfolding apply
-apply-follows b t (Print bytes) i = printed-follows b t bytes i
+apply-follows b t (Print bytes) i = after_print-follows b t bytes i
 apply-follows b t (MakeBuffer m) i = made_buffer-follows b t m i
 apply-follows b t (MakeSub parent base range) i = made_part-follows b t parent base (product range) i
 apply-follows b t (EndBuffer r) i = end_buffer-follows b t r (slice_get b.buffers r) refl i
@@ -605,11 +605,11 @@ apply-follows b t (OpenHost n) i = opened_host-follows b t n i
 apply-follows b t (CloseHost k values) i = close_found-follows b t values (access_from 0 b.entries t k) i
 apply-follows b t (MakeContext device) i = made_context-follows b t i
 apply-follows b t (MakeQueue m) i = made_queue-follows b t m i
-apply-follows b t (Submit m) i = submitted-follows b t m (slice_get b.queues m.queue) i
+apply-follows b t (Submit m) i = after_submit-follows b t m (slice_get b.queues m.queue) i
 apply-follows b t (WaitNode n) i = wait_if-follows _ b t (OnNode n) (λ q m p. absurd cc) i
 apply-follows b t (WaitQueue q) i = wait_if-follows _ b t (OnQueue q b.nodes) (λ r m p. (let e : b.nodes ≡ m = queue_number p in omega arith)) i
 apply-follows b t (ThrowQueue q) i = throw_queue-follows b t q i
-apply-follows b t (Spawn body captures) i = spawned-follows b t i
+apply-follows b t (Spawn body captures) i = after_spawn-follows b t i
 apply-follows b t (Join u) i = wait_if-follows _ b t (OnThread u) (λ q m p. absurd cc) i
 apply-follows b t (Finish v) i = follows-same b _ refl (buffers-stay b.buffers) (waits-set b _ t _ refl (omega arith) i refl)
 apply-follows b t (Halt x) i = follows-same b _ refl (buffers-stay b.buffers) (waits-stay b _ refl (omega arith))

@@ -14,7 +14,7 @@ use Rattle.sy_onecopy.specs.Each.{changed_at}
 use Rattle.sy_onecopy.specs.State.{Board}
 use Rattle.sy_onecopy.specs.Before.{is_done, is_free}
 use Rattle.sy_onecopy.specs.Settle.{await, with_stage, effect, settle_entry, settle_one, settle_upto, settle}
-use Rattle.sy_onecopy.specs.Step.{apply, begun, is_node_on}
+use Rattle.sy_onecopy.specs.Step.{apply, begin_ask, is_node_on}
 use Rattle.sy_onecopy.specs.Sequence.{is_clear, has_open_node_on}
 use Rattle.sy_settling.specs.Orderly.{IsAt, is_idle, IsOrderly, MayAsk}
 use Rattle.sy_settling.proofs.ListLemmas.{or_left, or_right, or_false, some_is, not_true, no_left}
@@ -112,8 +112,8 @@ marked-upto out f b (suc n) t w o i =
     let k = upto-keeps (λ z. is_idle (slice_get z.waits t) ≡ true) out (λ z m x p r. idle-effect out z m x t p r) b n o i in
     ap (settle_one out n) (marked-upto out f b n t w o i) ∙ marked_found out f c n t w (slice_get c.entries n) refl k.0 k.1
 
-pub begun-settle : (out : OutcomeOf) (b : Board) (t : ℕ) → IsOrderly b → is_idle (slice_get b.waits t) ≡ true → settle out (begun b t) ≡ begun (settle out b) t
-begun-settle out b t o i = marked-upto out suc b (length b.entries) t Never o i
+pub begin_ask-settle : (out : OutcomeOf) (b : Board) (t : ℕ) → IsOrderly b → is_idle (slice_get b.waits t) ≡ true → settle out (begin_ask b t) ≡ begin_ask (settle out b) t
+begin_ask-settle out b t o i = marked-upto out suc b (length b.entries) t Never o i
 
 pub await-settle : (out : OutcomeOf) (b : Board) (t : ℕ) (w : Waits) → IsOrderly b → is_idle (slice_get b.waits t) ≡ true → settle out (await b t w) ≡ await (settle out b) t w
 await-settle out b t w o i = marked-upto out (λ n. n) b (length b.entries) t w o i

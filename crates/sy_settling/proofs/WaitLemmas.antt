@@ -25,7 +25,7 @@ use Rattle.sy_onecopy.specs.declared.Waits.{Waits}
 use Rattle.sy_onecopy.specs.declared.Waits.TheVariants.{Ready as NoWait, OnThread, Finished}
 use Rattle.sy_onecopy.specs.State.{Board}
 use Rattle.sy_onecopy.specs.Settle.{await, reply, to_stage}
-use Rattle.sy_onecopy.specs.Step.{stop, printed, made_buffer, made_part, mark_ended, add_entry, end_entry, end_root, end_buffer, opened_host, access_entry, accesses, access_from, put_back, closed, close_entry, close_at, close_found, made_context, made_queue, add_node, node_entry, submitted, wait_if, thrown, throw_queue, spawned, apply, error_on, is_root, count_of, is_root_need, has_count, live_elements, holds_together, new_buffer, part_buffer}
+use Rattle.sy_onecopy.specs.Step.{stop, after_print, made_buffer, made_part, mark_ended, add_entry, end_entry, end_root, end_buffer, opened_host, access_entry, accesses, access_from, put_back, after_close, close_entry, close_at, close_found, made_context, made_queue, add_node, node_entry, after_submit, wait_if, after_throw, throw_queue, after_spawn, apply, error_on, is_root, count_of, is_root_need, has_count, live_elements, holds_together, new_buffer, part_buffer}
 use Rattle.sy_settling.proofs.ListLemmas.{set-swap}
 
 -- two threads
@@ -50,9 +50,9 @@ made_part-told b u t w r base n ne =
     pick (is_root (slice_get b.buffers r) && nat_le (base + n) (count_of (slice_get b.buffers r))) u w _ b _ (await b u w)
     (awaits-swap (record b { buffers = b.buffers ++ part_buffer ∷ [] }) u t w _ ne) refl
 
-printed-told : (b : Board) (u t : ℕ) (w : Waits) (bytes : List ℕ) → u ≢ t → printed (await b u w) t bytes ≡ await (printed b t bytes) u w
-unfolding printed
-printed-told b u t w bytes ne =
+after_print-told : (b : Board) (u t : ℕ) (w : Waits) (bytes : List ℕ) → u ≢ t → after_print (await b u w) t bytes ≡ await (after_print b t bytes) u w
+unfolding after_print
+after_print-told b u t w bytes ne =
     pick (nat_le (length b.output + length bytes) (2 ^ 24)) u w _ _ _ _ (awaits-swap (record b { output = b.output ++ bytes }) u t w _ ne) refl
 
 end_root-told : (b : Board) (u t : ℕ) (w : Waits) (r : ℕ) (x : Buffer) (o : Origin) → u ≢ t → end_root (await b u w) t r x o ≡ await (end_root b t r x o) u w
@@ -75,16 +75,16 @@ put_back-told : (b : Board) (u : ℕ) (w : Waits) (n : Need) (values : List ℤ)
 unfolding put_back
 put_back-told b u w n values = pick (writes n.mode) u w _ b _ (await b u w) refl refl
 
-closed-told : (b : Board) (u t : ℕ) (w : Waits) (values : List ℤ) (j : ℕ) (n : Need) → u ≢ t → closed (await b u w) t values j n ≡ await (closed b t values j n) u w
-unfolding closed
-closed-told b u t w values j n ne =
+after_close-told : (b : Board) (u t : ℕ) (w : Waits) (values : List ℤ) (j : ℕ) (n : Need) → u ≢ t → after_close (await b u w) t values j n ≡ await (after_close b t values j n) u w
+unfolding after_close
+after_close-told b u t w values j n ne =
     pick (length values == n.to - n.from) u w _ b _ (await b u w)
     (ap (λ z. reply (to_stage z j stage.Done) t Answered) (put_back-told b u w n values) ∙ awaits-swap (to_stage (put_back b n values) j stage.Done) u t w _ ne)
     refl
 
 close_entry-told : (b : Board) (u t : ℕ) (w : Waits) (values : List ℤ) (j : ℕ) (s : Stage) (ns : List Need) → u ≢ t → close_entry (await b u w) t values j s ns ≡ await (close_entry b t values j s ns) u w
 unfolding close_entry
-close_entry-told b u t w values j stage.Granted (n ∷ ns) ne = closed-told b u t w values j n ne
+close_entry-told b u t w values j stage.Granted (n ∷ ns) ne = after_close-told b u t w values j n ne
 close_entry-told b u t w values j stage.Granted [] ne = refl
 close_entry-told b u t w values j stage.Pending ns ne = refl
 close_entry-told b u t w values j stage.Done ns ne = refl
@@ -115,10 +115,10 @@ holds-told : (b : Board) (u : ℕ) (w : Waits) (m : Submission) → holds_togeth
 unfolding holds_together
 holds-told b u w m = refl
 
-submitted-told : (b : Board) (u t : ℕ) (w : Waits) (m : Submission) (o : Option Queue) → u ≢ t → submitted (await b u w) t m o ≡ await (submitted b t m o) u w
-unfolding submitted
-submitted-told b u t w m None ne = refl
-submitted-told b u t w m (Some x) ne =
+after_submit-told : (b : Board) (u t : ℕ) (w : Waits) (m : Submission) (o : Option Queue) → u ≢ t → after_submit (await b u w) t m o ≡ await (after_submit b t m o) u w
+unfolding after_submit
+after_submit-told b u t w m None ne = refl
+after_submit-told b u t w m (Some x) ne =
     ap (λ v. if v then add_node (await b u w) t (node_entry b.nodes m x) else await b u w) (holds-told b u w m)
     ∙ pick (holds_together b m) u w _ b _ (await b u w) (awaits-swap (record b { entries = b.entries ++ node_entry b.nodes m x ∷ []; nodes = suc b.nodes }) u t w _ ne) refl
 
@@ -126,17 +126,17 @@ wait_if-told : (v : Bool) (b : Board) (u t : ℕ) (w x : Waits) → u ≢ t → 
 wait_if-told true b u t w x ne = awaits-swap b u t w x ne
 wait_if-told false b u t w x ne = refl
 
-thrown-told : (b : Board) (u t : ℕ) (w : Waits) (o : Option KernelError) → u ≢ t → thrown (await b u w) t o ≡ await (thrown b t o) u w
-thrown-told b u t w None ne = awaits-swap b u t w _ ne
-thrown-told b u t w (Some f) ne = refl
+after_throw-told : (b : Board) (u t : ℕ) (w : Waits) (o : Option KernelError) → u ≢ t → after_throw (await b u w) t o ≡ await (after_throw b t o) u w
+after_throw-told b u t w None ne = awaits-swap b u t w _ ne
+after_throw-told b u t w (Some f) ne = refl
 
 throw_queue-told : (b : Board) (u t : ℕ) (w : Waits) (q : ℕ) → u ≢ t → throw_queue (await b u w) t q ≡ await (throw_queue b t q) u w
 unfolding throw_queue
-throw_queue-told b u t w q ne = pick (nat_lt q (length b.queues)) u w _ b _ (await b u w) (thrown-told b u t w (error_on q b.entries) ne) refl
+throw_queue-told b u t w q ne = pick (nat_lt q (length b.queues)) u w _ b _ (await b u w) (after_throw-told b u t w (error_on q b.entries) ne) refl
 
-spawned-told : (b : Board) (u t : ℕ) (w : Waits) → u ≢ t → u < length b.waits → spawned (await b u w) t ≡ await (spawned b t) u w
-unfolding spawned
-spawned-told b u t w ne lt =
+after_spawn-told : (b : Board) (u t : ℕ) (w : Waits) → u ≢ t → u < length b.waits → after_spawn (await b u w) t ≡ await (after_spawn b t) u w
+unfolding after_spawn
+after_spawn-told b u t w ne lt =
     let n = length-set b.waits u w in
     let grow = λ (l : List Waits) (i : ℕ). (let c : Board = reply (record b { waits = l }) t (Number i) in c) in
     ap (λ i. if nat_lt i 64 then reply (record b { waits = set b.waits u w ++ NoWait ∷ [] }) t (Number (length (set b.waits u w))) else stop (await b u w) (Terminated Threads)) n
@@ -149,7 +149,7 @@ spawned-told b u t w ne lt =
 -- a thread that doesn't ask is told the same before the ask's effect and after it
 pub apply-told : (b : Board) (u t : ℕ) (w : Waits) (q : Ask) → u ≢ t → u < length b.waits → apply (await b u w) t q ≡ await (apply b t q) u w
 unfolding apply
-apply-told b u t w (Print bytes) ne lt = printed-told b u t w bytes ne
+apply-told b u t w (Print bytes) ne lt = after_print-told b u t w bytes ne
 apply-told b u t w (MakeBuffer m) ne lt = made_buffer-told b u t w m ne
 apply-told b u t w (MakeSub parent base range) ne lt = made_part-told b u t w parent base (product range) ne
 apply-told b u t w (EndBuffer r) ne lt = end_buffer-told b u t w r (slice_get b.buffers r) ne
@@ -157,11 +157,11 @@ apply-told b u t w (OpenHost n) ne lt = opened_host-told b u t w n ne
 apply-told b u t w (CloseHost i values) ne lt = close_found-told b u t w values (access_from 0 b.entries t i) ne
 apply-told b u t w (MakeContext device) ne lt = made_context-told b u t w ne
 apply-told b u t w (MakeQueue m) ne lt = made_queue-told b u t w m ne
-apply-told b u t w (Submit m) ne lt = submitted-told b u t w m (slice_get b.queues m.queue) ne
+apply-told b u t w (Submit m) ne lt = after_submit-told b u t w m (slice_get b.queues m.queue) ne
 apply-told b u t w (WaitNode n) ne lt = wait_if-told _ b u t w _ ne
 apply-told b u t w (WaitQueue q) ne lt = wait_if-told _ b u t w _ ne
 apply-told b u t w (ThrowQueue q) ne lt = throw_queue-told b u t w q ne
-apply-told b u t w (Spawn body captures) ne lt = spawned-told b u t w ne lt
+apply-told b u t w (Spawn body captures) ne lt = after_spawn-told b u t w ne lt
 apply-told b u t w (Join v) ne lt =
     ap (λ n. wait_if (nat_lt v n) (await b u w) t (OnThread v)) (length-set b.waits u w) ∙ wait_if-told _ b u t w _ ne
 apply-told b u t w (Finish v) ne lt = awaits-swap b u t w (Finished v) ne

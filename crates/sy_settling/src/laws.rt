@@ -8,7 +8,7 @@ ghost use Rattle.sy_onecopy.specs.declared.Waits.TheVariants.{Ready};
 ghost use Rattle.sy_onecopy.specs.declared.Waits.{Waits};
 ghost use Rattle.sy_onecopy.specs.Settle.{await, effect, settle};
 ghost use Rattle.sy_onecopy.specs.State.{Board, State, next_ask, opening};
-ghost use Rattle.sy_onecopy.specs.Step.{apply, begun, give_all, given, once_heard, turn};
+ghost use Rattle.sy_onecopy.specs.Step.{apply, begin_ask, give_all, given, once_heard, turn};
 ghost use Rattle.sy_onecopy.specs.Sequence.{is_clear, is_legal, seq};
 ghost use Rattle.sy_settling.specs.Orderly.{IsAlike, IsFreeAt, IsOrderly, MayAsk, quiesce, heard, is_idle};
 
@@ -26,7 +26,7 @@ pub fn effects_commute_with_asks()
 
 /// Settling before a thread's step is begun or its ask has its effect, and after it, is settling after it.
 pub fn effects_commute_with_settling()
-    ensures begun { (out : OutcomeOf) (b : Board) (t : ℕ) → IsOrderly b → is_idle (slice_get b.waits t) ≡ true → settle out (begun b t) ≡ begun (settle out b) t }
+    ensures begin_ask { (out : OutcomeOf) (b : Board) (t : ℕ) → IsOrderly b → is_idle (slice_get b.waits t) ≡ true → settle out (begin_ask b t) ≡ begin_ask (settle out b) t }
     ensures settled { (out : OutcomeOf) (b : Board) (t : ℕ) (q : Ask) → IsOrderly b → MayAsk b t q → settle out (apply (settle out b) t q) ≡ settle out (apply b t q) }
     ensures given { (out : OutcomeOf) (b : Board) (t : ℕ) (q : Ask) → IsOrderly b → MayAsk b t q → give_all (settle out (apply (settle out b) t q)) ≡ give_all (settle out (apply b t q)) }
 {}
@@ -54,7 +54,7 @@ pub fn order_is_kept()
     ensures effect { (out : OutcomeOf) (b : Board) (k : ℕ) (e : Entry) → IsOrderly b → IsFreeAt b.entries k e → IsOrderly (effect out b k e e.work) }
     ensures may_ask { (out : OutcomeOf) (b : Board) (k : ℕ) (e : Entry) (t : ℕ) (q : Ask) → IsOrderly b → IsFreeAt b.entries k e → MayAsk b t q → MayAsk (effect out b k e e.work) t q }
     ensures settled { (out : OutcomeOf) (b : Board) → IsOrderly b → IsOrderly (settle out b) }
-    ensures begun { (b : Board) (t : ℕ) → IsOrderly b → is_idle (slice_get b.waits t) ≡ true → IsOrderly (begun b t) }
+    ensures begin_ask { (b : Board) (t : ℕ) → IsOrderly b → is_idle (slice_get b.waits t) ≡ true → IsOrderly (begin_ask b t) }
     ensures asked { (b : Board) (t : ℕ) (q : Ask) → IsOrderly b → MayAsk b t q → IsOrderly (apply b t q) }
     ensures given { (b : Board) → IsOrderly b → IsOrderly (give_all b) }
     ensures heard { (b : Board) → IsOrderly b → IsOrderly (heard b) }
@@ -64,6 +64,6 @@ pub fn order_is_kept()
 /// The states of legal orders have what the laws above ask for.
 pub fn legal_orders_are_orderly()
     ensures orderly { (p : Program) (order : List ℕ) (s : State) → seq p order ≡ Some s → IsOrderly s.board }
-    ensures may_ask { (p : Program) (s : State) (t : ℕ) → is_legal p s t ≡ true → MayAsk (begun s.board t) t (next_ask p s t) }
-    ensures settled { (p : Program) (order : List ℕ) (s : State) (t : ℕ) (out : OutcomeOf) → seq p order ≡ Some s → is_legal p s t ≡ true → settle out (apply (settle out (begun s.board t)) t (next_ask p s t)) ≡ settle out (apply (begun s.board t) t (next_ask p s t)) }
+    ensures may_ask { (p : Program) (s : State) (t : ℕ) → is_legal p s t ≡ true → MayAsk (begin_ask s.board t) t (next_ask p s t) }
+    ensures settled { (p : Program) (order : List ℕ) (s : State) (t : ℕ) (out : OutcomeOf) → seq p order ≡ Some s → is_legal p s t ≡ true → settle out (apply (settle out (begin_ask s.board t)) t (next_ask p s t)) ≡ settle out (apply (begin_ask s.board t) t (next_ask p s t)) }
 {}

@@ -12,7 +12,7 @@ use Rattle.sy_onecopy.specs.State.{Board, State, opening, start, new_thread, nex
 use Rattle.sy_onecopy.specs.Before.{is_free}
 use Rattle.sy_onecopy.specs.Outcome.{inputs}
 use Rattle.sy_onecopy.specs.Settle.{took, effect, settle_entry, settle_one, settle_upto}
-use Rattle.sy_onecopy.specs.Step.{apply, begun, give_all, turn, after_turn, step}
+use Rattle.sy_onecopy.specs.Step.{apply, begin_ask, give_all, turn, after_turn, step}
 use Rattle.std.proofs.lemmas.Option.{same_Some}
 use Rattle.std.specs.Prelude.{◌++◌}
 use Rattle.sy_onecopy.proofs.RunLemmas.{legal_first, one_more_step}
@@ -51,7 +51,7 @@ module _ (K : Command → Type 0) (f g : OutcomeOf) (agree : AgreeOn K f g) wher
   pub turn_alike : (b : Board) (t : ℕ) (q : Ask) → IsSound b → b.steps < 2 ^ 24 → AllKnown K b.entries → IsKnown K q → turn f b t q ≡ turn g b t q
   unfolding turn
   turn_alike b t q s lt known asked =
-      let a = apply (begun b t) t q in
+      let a = apply (begin_ask b t) t q in
       ap give_all (upto_alike a (length a.entries) (asked-sound b t q s lt) (known_asked K b t q asked known))
 
 in_time : (p : Program) (s : State) (t : ℕ) → is_legal p s t ≡ true → s.board.steps < 2 ^ 24

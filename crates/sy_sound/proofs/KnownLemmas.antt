@@ -29,7 +29,7 @@ use Rattle.sy_onecopy.specs.State.{Board}
 use Rattle.sy_onecopy.specs.Before.{is_free}
 use Rattle.sy_onecopy.specs.Outcome.{inputs}
 use Rattle.sy_onecopy.specs.Settle.{with_stage, took, effect, settle_entry, settle_upto}
-use Rattle.sy_onecopy.specs.Step.{printed, is_root, count_of, is_root_need, live_elements, has_count, made_buffer, made_part, end_root, end_buffer, opened_host, put_back, closed, close_entry, close_at, close_found, access_from, made_context, made_queue, holds_together, node_entry, submitted, wait_if, error_on, thrown, throw_queue, spawned, apply, give_all, begun, turn}
+use Rattle.sy_onecopy.specs.Step.{after_print, is_root, count_of, is_root_need, live_elements, has_count, made_buffer, made_part, end_root, end_buffer, opened_host, put_back, after_close, close_entry, close_at, close_found, access_from, made_context, made_queue, holds_together, node_entry, after_submit, wait_if, error_on, after_throw, throw_queue, after_spawn, apply, give_all, begin_ask, turn}
 use Rattle.sy_sound.specs.Known.{AllKnown, IsKnown}
 
 some_is : {A : Type 0} {x y : A} → Some x ≡ Some y → x ≡ y
@@ -77,8 +77,8 @@ module _ (K : Command → Type 0) where
   node_known : (m p : ℕ) (d : Command) → K d → WorkKnown K (Node m p d)
   node_known m p d h n q c e = let same : d ≡ c = cc in subst K same h
 
-  known_printed : (b : Board) (t : ℕ) (bytes : List ℕ) → Knows b → Knows (printed b t bytes)
-  unfolding printed
+  known_printed : (b : Board) (t : ℕ) (bytes : List ℕ) → Knows b → Knows (after_print b t bytes)
+  unfolding after_print
   known_printed b t bytes h = on_if (nat_le (length b.output + length bytes) (2 ^ 24)) _ _ h h
 
   known_buffer : (b : Board) (t : ℕ) (m : NewBuffer) → Knows b → Knows (made_buffer b t m)
@@ -108,8 +108,8 @@ module _ (K : Command → Type 0) where
   unfolding put_back
   known_put b n values h = on_if (writes n.mode) _ _ h h
 
-  known_closed : (b : Board) (t : ℕ) (values : List ℤ) (k : ℕ) (n : Need) → Knows b → Knows (closed b t values k n)
-  unfolding closed
+  known_closed : (b : Board) (t : ℕ) (values : List ℤ) (k : ℕ) (n : Need) → Knows b → Knows (after_close b t values k n)
+  unfolding after_close
   known_closed b t values k n h = on_if _ _ _ (known_stage (put_back b n values).entries Done k (known_put b n values h)) h
 
   known_entry : (b : Board) (t : ℕ) (values : List ℤ) (k : ℕ) (s : Stage) (ns : List Need) → Knows b → Knows (close_entry b t values k s ns)
@@ -138,8 +138,8 @@ module _ (K : Command → Type 0) where
   unfolding made_queue
   known_queue b t m h = on_if (nat_lt 0 m.context && nat_lt m.context b.places) _ _ h h
 
-  known_submitted : (b : Board) (t : ℕ) (s : Submission) (o : Option Queue) → K s.command → Knows b → Knows (submitted b t s o)
-  unfolding submitted
+  known_submitted : (b : Board) (t : ℕ) (s : Submission) (o : Option Queue) → K s.command → Knows b → Knows (after_submit b t s o)
+  unfolding after_submit
   known_submitted b t s None k h = h
   known_submitted b t s (Some x) k h = on_if (holds_together b s) _ _ (known_push b.entries (node_entry b.nodes s x) h (node_known b.nodes s.queue s.command k)) h
 
@@ -147,7 +147,7 @@ module _ (K : Command → Type 0) where
   known_wait true b t w h = h
   known_wait false b t w h = h
 
-  known_thrown : (b : Board) (t : ℕ) (o : Option KernelError) → Knows b → Knows (thrown b t o)
+  known_thrown : (b : Board) (t : ℕ) (o : Option KernelError) → Knows b → Knows (after_throw b t o)
   known_thrown b t None h = h
   known_thrown b t (Some e) h = h
 
@@ -155,8 +155,8 @@ module _ (K : Command → Type 0) where
   unfolding throw_queue
   known_throw b t q h = on_if (nat_lt q (length b.queues)) _ _ (known_thrown b t (error_on q b.entries) h) h
 
-  known_spawned : (b : Board) (t : ℕ) → Knows b → Knows (spawned b t)
-  unfolding spawned
+  known_spawned : (b : Board) (t : ℕ) → Knows b → Knows (after_spawn b t)
+  unfolding after_spawn
   known_spawned b t h = on_if (nat_lt (length b.waits) 64) _ _ h h
 
   pub known_apply : (b : Board) (t : ℕ) (q : Ask) → IsKnown K q → Knows b → Knows (apply b t q)
@@ -200,10 +200,10 @@ module _ (K : Command → Type 0) where
   known_upto out b zero h = h
   known_upto out b (suc k) h = known_settle out (settle_upto out b k) k (slice_get (settle_upto out b k).entries k) (known_upto out b k h)
 
-  pub known_asked : (b : Board) (t : ℕ) (q : Ask) → IsKnown K q → Knows b → Knows (apply (begun b t) t q)
-  known_asked b t q k h = known_apply (begun b t) t q k h
+  pub known_asked : (b : Board) (t : ℕ) (q : Ask) → IsKnown K q → Knows b → Knows (apply (begin_ask b t) t q)
+  known_asked b t q k h = known_apply (begin_ask b t) t q k h
 
   -- the commands of the nodes after a turn
   pub known_turn : (out : OutcomeOf) (b : Board) (t : ℕ) (q : Ask) → IsKnown K q → Knows b → Knows (turn out b t q)
   unfolding turn give_all
-  known_turn out b t q k h = known_upto out (apply (begun b t) t q) (length (apply (begun b t) t q).entries) (known_asked b t q k h)
+  known_turn out b t q k h = known_upto out (apply (begin_ask b t) t q) (length (apply (begin_ask b t) t q).entries) (known_asked b t q k h)

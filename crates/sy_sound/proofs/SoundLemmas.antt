@@ -38,7 +38,7 @@ use Rattle.sy_onecopy.specs.State.{Board, State, opening, start, next_ask}
 use Rattle.sy_onecopy.specs.Before.{is_free}
 use Rattle.sy_onecopy.specs.Outcome.{inputs, buffer_after, buffers_after}
 use Rattle.sy_onecopy.specs.Settle.{await, with_stage, to_stage, took, effect, settle_entry, settle_one, settle_upto, settle}
-use Rattle.sy_onecopy.specs.Step.{printed, stop, live_elements, has_count, new_buffer, add_buffer, part_buffer, made_buffer, made_part, is_part, is_root, count_of, add_entry, whole, end_entry, with_end, mark_ended, end_root, end_buffer, accesses, access_entry, access_from, opened_host, is_root_need, are_root_needs, are_different, are_below, has_needs, holds_together, buffer_put, put_back, closed, close_entry, close_at, close_found, made_context, add_queue, made_queue, node_entry, add_node, submitted, wait_if, thrown, error_on, throw_queue, spawned, apply, given, give_all, begun, turn, step, once_heard}
+use Rattle.sy_onecopy.specs.Step.{after_print, stop, live_elements, has_count, new_buffer, add_buffer, part_buffer, made_buffer, made_part, is_part, is_root, count_of, add_entry, whole, end_entry, with_end, mark_ended, end_root, end_buffer, accesses, access_entry, access_from, opened_host, is_root_need, are_root_needs, are_different, are_below, has_needs, holds_together, buffer_put, put_back, after_close, close_entry, close_at, close_found, made_context, add_queue, made_queue, node_entry, add_node, after_submit, wait_if, after_throw, error_on, throw_queue, after_spawn, apply, given, give_all, begin_ask, turn, step, once_heard}
 use Rattle.sy_onecopy.specs.Sequence.{seq_from, seq, is_legal, may_step}
 use Rattle.sy_sound.specs.Sound.{IsHeld, Stands, node_number, node_numbers, IsSound}
 use Rattle.sy_sound.proofs.ListLemmas.{length-each_from, length-changed_at, All-at, All-changed_at, range_push}
@@ -99,9 +99,9 @@ printed_more b bytes h s = record {
   numbers = s.numbers;
 }
 
-pub printed-sound : (b : Board) (t : ℕ) (bytes : List ℕ) → IsSound b → IsSound (printed b t bytes)
-unfolding printed
-printed-sound b t bytes s =
+pub after_print-sound : (b : Board) (t : ℕ) (bytes : List ℕ) → IsSound b → IsSound (after_print b t bytes)
+unfolding after_print
+after_print-sound b t bytes s =
     either (nat_le (length b.output + length bytes) (2 ^ 24)) _ _
     (λ h. await-sound (record b { output = b.output ++ bytes }) t _ (printed_more b bytes (leb-true (length b.output + length bytes) (2 ^ 24) h) s))
     (stop-sound b _ s)
@@ -136,11 +136,11 @@ counted_more b s lt =
       numbers = s.numbers;
     }
 
-pub begun-sound : (b : Board) (t : ℕ) → IsSound b → b.steps < 2 ^ 24 → IsSound (begun b t)
-begun-sound b t s lt = await-sound (record b { steps = suc b.steps }) t _ (counted_more b s lt)
+pub begin_ask-sound : (b : Board) (t : ℕ) → IsSound b → b.steps < 2 ^ 24 → IsSound (begin_ask b t)
+begin_ask-sound b t s lt = await-sound (record b { steps = suc b.steps }) t _ (counted_more b s lt)
 
-pub begun-room : (b : Board) (t : ℕ) → IsSound b → HasRoom (begun b t)
-begun-room b t s =
+pub begin_ask-room : (b : Board) (t : ℕ) → IsSound b → HasRoom (begin_ask b t)
+begin_ask-room b t s =
     let c : length b.buffers ≤ b.steps = s.counts.buffers in
     let q : length b.queues ≤ b.steps = s.counts.queues in
     let e : length b.entries ≤ b.steps = s.counts.entries in
@@ -391,15 +391,15 @@ unfolding put_back
 put_back-sound b n values s =
     either (writes n.mode) _ b (λ h. rebuffered b (each_from (buffer_put n values) 0 b.buffers) (alike-each_from (buffer_put n values) (put_alike n values) 0 b.buffers) s) s
 
-pub closed-sound : (b : Board) (t : ℕ) (values : List ℤ) (k : ℕ) (n : Need) → IsSound b → IsSound (closed b t values k n)
-unfolding closed
-closed-sound b t values k n s =
+pub after_close-sound : (b : Board) (t : ℕ) (values : List ℤ) (k : ℕ) (n : Need) → IsSound b → IsSound (after_close b t values k n)
+unfolding after_close
+after_close-sound b t values k n s =
     either (length values == n.to - n.from) _ b
     (λ h. await-sound (to_stage (put_back b n values) k stage.Done) t _ (to_stage-sound (put_back b n values) k stage.Done (put_back-sound b n values s))) s
 
 pub close_entry-sound : (b : Board) (t : ℕ) (values : List ℤ) (k : ℕ) (g : Stage) (ns : List Need) → IsSound b → IsSound (close_entry b t values k g ns)
 unfolding close_entry
-close_entry-sound b t values k stage.Granted (n ∷ ns) s = closed-sound b t values k n s
+close_entry-sound b t values k stage.Granted (n ∷ ns) s = after_close-sound b t values k n s
 close_entry-sound b t values k stage.Granted [] s = s
 close_entry-sound b t values k stage.Pending ns s = s
 close_entry-sound b t values k stage.Done ns s = s
@@ -495,10 +495,10 @@ add_node-sound b t m x s room e h =
     await-sound (record b { entries = b.entries ++ node_entry b.nodes m x ∷ []; nodes = suc b.nodes }) t _
     (node_more b (node_entry b.nodes m x) s room.entries (node_stands b m x h (All-at (λ (v : Queue). v.place < b.places) b.queues m.queue x s.queues e)) refl)
 
-pub submitted-sound : (b : Board) (t : ℕ) (m : Submission) (o : Option Queue) → IsSound b → HasRoom b → slice_get b.queues m.queue ≡ o → IsSound (submitted b t m o)
-unfolding submitted
-submitted-sound b t m None s room e = s
-submitted-sound b t m (Some x) s room e = either (holds_together b m) _ b (λ h. add_node-sound b t m x s room e h) s
+pub after_submit-sound : (b : Board) (t : ℕ) (m : Submission) (o : Option Queue) → IsSound b → HasRoom b → slice_get b.queues m.queue ≡ o → IsSound (after_submit b t m o)
+unfolding after_submit
+after_submit-sound b t m None s room e = s
+after_submit-sound b t m (Some x) s room e = either (holds_together b m) _ b (λ h. add_node-sound b t m x s room e h) s
 
 -- ---- waits and threads
 
@@ -506,13 +506,13 @@ pub wait_if-sound : (v : Bool) (b : Board) (t : ℕ) (w : Waits) → IsSound b �
 wait_if-sound true b t w s = await-sound b t w s
 wait_if-sound false b t w s = s
 
-pub thrown-sound : (b : Board) (t : ℕ) (o : Option KernelError) → IsSound b → IsSound (thrown b t o)
-thrown-sound b t None s = await-sound b t _ s
-thrown-sound b t (Some e) s = stop-sound b _ s
+pub after_throw-sound : (b : Board) (t : ℕ) (o : Option KernelError) → IsSound b → IsSound (after_throw b t o)
+after_throw-sound b t None s = await-sound b t _ s
+after_throw-sound b t (Some e) s = stop-sound b _ s
 
 pub throw_queue-sound : (b : Board) (t q : ℕ) → IsSound b → IsSound (throw_queue b t q)
 unfolding throw_queue
-throw_queue-sound b t q s = either (nat_lt q (length b.queues)) _ b (λ h. thrown-sound b t (error_on q b.entries) s) s
+throw_queue-sound b t q s = either (nat_lt q (length b.queues)) _ b (λ h. after_throw-sound b t (error_on q b.entries) s) s
 
 thread_more : (b : Board) → length b.waits < 64 → IsSound b → IsSound (record b { waits = b.waits ++ Ready ∷ [] })
 thread_more b lt s = record {
@@ -534,16 +534,16 @@ thread_more b lt s = record {
   numbers = s.numbers;
 }
 
-pub spawned-sound : (b : Board) (t : ℕ) → IsSound b → IsSound (spawned b t)
-unfolding spawned
-spawned-sound b t s =
+pub after_spawn-sound : (b : Board) (t : ℕ) → IsSound b → IsSound (after_spawn b t)
+unfolding after_spawn
+after_spawn-sound b t s =
     either (nat_lt (length b.waits) 64) _ _ (λ h. await-sound (record b { waits = b.waits ++ Ready ∷ [] }) t _ (thread_more b (ltb-true (length b.waits) 64 h) s)) (stop-sound b _ s)
 
 -- ---- an ask
 
 pub apply-sound : (b : Board) (t : ℕ) (q : Ask) → IsSound b → HasRoom b → IsSound (apply b t q)
 unfolding apply
-apply-sound b t (Print bytes) s room = printed-sound b t bytes s
+apply-sound b t (Print bytes) s room = after_print-sound b t bytes s
 apply-sound b t (MakeBuffer m) s room = made_buffer-sound b t m s room
 apply-sound b t (MakeSub parent base range) s room = made_part-sound b t parent base (product range) s room
 apply-sound b t (EndBuffer r) s room = end_buffer-sound b t r (slice_get b.buffers r) s room refl
@@ -551,11 +551,11 @@ apply-sound b t (OpenHost n) s room = opened_host-sound b t n s room
 apply-sound b t (CloseHost k values) s room = close_found-sound b t values (access_from 0 b.entries t k) s
 apply-sound b t (MakeContext device) s room = made_context-sound b t s
 apply-sound b t (MakeQueue m) s room = made_queue-sound b t m s room
-apply-sound b t (Submit m) s room = submitted-sound b t m (slice_get b.queues m.queue) s room refl
+apply-sound b t (Submit m) s room = after_submit-sound b t m (slice_get b.queues m.queue) s room refl
 apply-sound b t (WaitNode n) s room = wait_if-sound _ b t _ s
 apply-sound b t (WaitQueue q) s room = wait_if-sound _ b t _ s
 apply-sound b t (ThrowQueue q) s room = throw_queue-sound b t q s
-apply-sound b t (Spawn body captures) s room = spawned-sound b t s
+apply-sound b t (Spawn body captures) s room = after_spawn-sound b t s
 apply-sound b t (Join u) s room = wait_if-sound _ b t _ s
 apply-sound b t (Finish v) s room = await-sound b t _ s
 apply-sound b t (Halt h) s room = stop-sound b _ s
@@ -607,13 +607,13 @@ give_all-sound b s = rewaited b (map (given b) b.waits) b.ended (length-map b.wa
 -- ---- a turn, a step and a sequence
 
 -- an ask has had its effect, and nothing has settled yet
-pub asked-sound : (b : Board) (t : ℕ) (q : Ask) → IsSound b → b.steps < 2 ^ 24 → IsSound (apply (begun b t) t q)
-asked-sound b t q s lt = apply-sound (begun b t) t q (begun-sound b t s lt) (begun-room b t s)
+pub asked-sound : (b : Board) (t : ℕ) (q : Ask) → IsSound b → b.steps < 2 ^ 24 → IsSound (apply (begin_ask b t) t q)
+asked-sound b t q s lt = apply-sound (begin_ask b t) t q (begin_ask-sound b t s lt) (begin_ask-room b t s)
 
 pub turn-sound : (out : OutcomeOf) (b : Board) (t : ℕ) (q : Ask) → IsSound b → b.steps < 2 ^ 24 → IsSound (turn out b t q)
 unfolding turn
 turn-sound out b t q s lt =
-    let a = apply (begun b t) t q in give_all-sound (settle out a) (settle-sound out a (asked-sound b t q s lt))
+    let a = apply (begin_ask b t) t q in give_all-sound (settle out a) (settle-sound out a (asked-sound b t q s lt))
 
 pub step-sound : (p : Program) (s : State) (t : ℕ) → IsSound s.board → s.board.steps < 2 ^ 24 → IsSound (step p s t).board
 unfolding step

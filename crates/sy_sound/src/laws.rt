@@ -14,14 +14,14 @@ ghost use Rattle.sy_onecopy.specs.Outcome.{inputs};
 ghost use Rattle.sy_onecopy.specs.Sequence.{seq};
 ghost use Rattle.sy_onecopy.specs.State.{Board, State, opening, start};
 ghost use Rattle.sy_onecopy.specs.Settle.{settle_upto};
-ghost use Rattle.sy_onecopy.specs.Step.{apply, begun, turn};
+ghost use Rattle.sy_onecopy.specs.Step.{apply, begin_ask, turn};
 ghost use Rattle.sy_sound.specs.Sound.{IsSound};
 
 /// A run's board is sound as it opens, when an ask has had its effect, at each point of a pass over its
 /// entries, and after each turn.
 pub fn turns_keep_boards_sound()
     ensures opens { IsSound opening }
-    ensures asks { (b : Board) (t : ℕ) (q : Ask) → IsSound b → b.steps < 2 ^ 24 → IsSound (apply (begun b t) t q) }
+    ensures asks { (b : Board) (t : ℕ) (q : Ask) → IsSound b → b.steps < 2 ^ 24 → IsSound (apply (begin_ask b t) t q) }
     ensures settles { (out : OutcomeOf) (b : Board) (k : ℕ) → IsSound b → IsSound (settle_upto out b k) }
     ensures turns { (out : OutcomeOf) (b : Board) (t : ℕ) (q : Ask) → IsSound b → b.steps < 2 ^ 24 → IsSound (turn out b t q) }
 {}

@@ -8,7 +8,7 @@ use Rattle.sy_sums.specs.declared.sums.Given.TheVariants.{Number}
 use Rattle.sy_sums.specs.declared.sums.Given.TheVariants as given
 use Rattle.sy_sums.specs.declared.sums.Operand.{Operand}
 use Rattle.sy_sums.specs.Sums.{program_of, ask_of_sum, ask_here}
-use Rattle.sy_sums.specs.Commands.{is_submit, submitted, commands}
+use Rattle.sy_sums.specs.Commands.{is_submit, submits_in, commands}
 
 sum_submits_none : (v : Bool) (line : ℕ) (g : Given) → is_submit (ask_of_sum v line g) ≡ 0
 sum_submits_none v line (given.Overflow at) = refl
@@ -23,10 +23,10 @@ thread_submits_none : (turns : ℕ) (ops : List Operand) (o : Option Thread) →
 thread_submits_none turns ops None = refl
 thread_submits_none turns ops (Some x) = submits_none _ _
 
-none_from : (turns : ℕ) (ops : List Operand) (s : State) (order : List ℕ) → submitted (program_of turns ops) s order ≡ 0
+none_from : (turns : ℕ) (ops : List Operand) (s : State) (order : List ℕ) → submits_in (program_of turns ops) s order ≡ 0
 none_from turns ops s [] = refl
 none_from turns ops s (t ∷ ts) =
-    ap (λ n. n + submitted (program_of turns ops) (step (program_of turns ops) s t) ts) (thread_submits_none turns ops (slice_get s.threads t))
+    ap (λ n. n + submits_in (program_of turns ops) (step (program_of turns ops) s t) ts) (thread_submits_none turns ops (slice_get s.threads t))
     ∙ ap (λ n. 0 + n) (none_from turns ops (step (program_of turns ops) s t) ts)
 
 pub no_commands : (turns : ℕ) (ops : List Operand) (order : List ℕ) → commands (program_of turns ops) order ≡ 0

@@ -11,9 +11,9 @@ is_submit (Submit submission) = 1
 is_submit ask = 0
 
 -- how many of the steps submit a command
-abbrev pub submitted : Program → State → List ℕ → ℕ
-submitted p s [] = 0
-submitted p s (t ∷ ts) = is_submit (next_ask p s t) + submitted p (step p s t) ts
+abbrev pub submits_in : Program → State → List ℕ → ℕ
+submits_in p s [] = 0
+submits_in p s (t ∷ ts) = is_submit (next_ask p s t) + submits_in p (step p s t) ts
 
 abbrev pub commands : Program → List ℕ → ℕ
-commands p order = submitted p (start p) order
+commands p order = submits_in p (start p) order

@@ -10,8 +10,8 @@ fn is_digit(b: u8) -> bool
 }
 
 /// The number so far, after one more digit.
-fn grown(value: Option<u64>, b: u8) -> Option<u64>
-    ensures value { result ≡ spec.grown value b }
+fn push_digit(value: Option<u64>, b: u8) -> Option<u64>
+    ensures value { result ≡ spec.push_digit value b }
     ensures small { IfSome result (λ n. n < 1000000000000000000) }
 {
     match value {
@@ -28,12 +28,12 @@ fn grown(value: Option<u64>, b: u8) -> Option<u64>
 
 /// The number that these digits write.
 fn digits_value(text: &[u8]) -> Option<u64>
-    ensures value { result ≡ fold spec.grown (Some 0) text.now }
+    ensures value { result ≡ fold spec.push_digit (Some 0) text.now }
     ensures small { IfSome result (λ n. n < 1000000000000000000) }
 {
     let mut value = Some(0);
     for b in text {
-        value = grown(value, *b);
+        value = push_digit(value, *b);
     }
     value
 }

@@ -3,7 +3,7 @@ use Rattle.std.proofs.Common.{◌≡◌, ℕ, ◌+◌, ◌-◌, ◌*◌, ◌<◌
 use Rattle.std.specs.Prelude.{◌&&◌, ◌||◌, not, length, ◌==◌, if◌then◌else◌}
 use Rattle.std.specs.List.{list_all}
 use Rattle.std.proofs.lemmas.Bool.Decides.{nat_tests}
-use Rattle.sy_top.specs.Words.{is_digit, number_of, is_numeral, grown, number_within}
+use Rattle.sy_top.specs.Words.{is_digit, number_of, is_numeral, push_digit, number_within}
 
 abbrev more : ℕ → ℕ → ℕ
 more n b = 10 * n + (b - 48)
@@ -13,7 +13,7 @@ grows : (n : ℕ) (bs : List ℕ) → n ≤ fold more n bs
 grows n [] = omega arith
 grows n (b ∷ bs) = let h = grows (more n b) bs in omega arith
 
-spent : (greatest : ℕ) (bs : List ℕ) → fold (grown greatest) None bs ≡ None
+spent : (greatest : ℕ) (bs : List ℕ) → fold (push_digit greatest) None bs ≡ None
 spent greatest [] = refl
 spent greatest (b ∷ bs) = spent greatest bs
 
@@ -38,26 +38,26 @@ second_true true b h = h
 second_true false b h = cc
 
 -- all that fits is taken
-fits_in : (greatest n : ℕ) (bs : List ℕ) → list_all is_digit bs ≡ true → fold more n bs ≤ greatest → fold (grown greatest) (Some n) bs ≡ Some (fold more n bs)
+fits_in : (greatest n : ℕ) (bs : List ℕ) → list_all is_digit bs ≡ true → fold more n bs ≤ greatest → fold (push_digit greatest) (Some n) bs ≡ Some (fold more n bs)
 fits_in greatest n [] d h = refl
 fits_in greatest n (b ∷ bs) d h =
     let digit = first_true (is_digit b) (list_all is_digit bs) d in
     let g = grows (more n b) bs in
     let small : nat_le (more n b) greatest ≡ true = below (more n b) greatest (omega arith) in
-    ap (λ t. fold (grown greatest) (if t && nat_le (more n b) greatest then Some (more n b) else None) bs) digit
-    ∙ ap (λ t. fold (grown greatest) (if t then Some (more n b) else None) bs) small
+    ap (λ t. fold (push_digit greatest) (if t && nat_le (more n b) greatest then Some (more n b) else None) bs) digit
+    ∙ ap (λ t. fold (push_digit greatest) (if t then Some (more n b) else None) bs) small
     ∙ fits_in greatest (more n b) bs (second_true (is_digit b) (list_all is_digit bs) d) h
 
 -- and no more
-too_great : (greatest n : ℕ) (bs : List ℕ) → n ≤ greatest → list_all is_digit bs ≡ true → greatest < fold more n bs → fold (grown greatest) (Some n) bs ≡ None
+too_great : (greatest n : ℕ) (bs : List ℕ) → n ≤ greatest → list_all is_digit bs ≡ true → greatest < fold more n bs → fold (push_digit greatest) (Some n) bs ≡ None
 too_great greatest n [] le d h = absurd (omega arith)
 too_great greatest n (b ∷ bs) le d h =
     let digit = first_true (is_digit b) (list_all is_digit bs) d in
-    let turn : (t : Bool) → nat_le (more n b) greatest ≡ t → fold (grown greatest) (if t then Some (more n b) else None) bs ≡ None = λ t. elim t as (λ t. nat_le (more n b) greatest ≡ t → fold (grown greatest) (if t then Some (more n b) else None) bs ≡ None) [
+    let turn : (t : Bool) → nat_le (more n b) greatest ≡ t → fold (push_digit greatest) (if t then Some (more n b) else None) bs ≡ None = λ t. elim t as (λ t. nat_le (more n b) greatest ≡ t → fold (push_digit greatest) (if t then Some (more n b) else None) bs ≡ None) [
       | true ↦ λ e. too_great greatest (more n b) bs (is_below (more n b) greatest e) (second_true (is_digit b) (list_all is_digit bs) d) h
       | false ↦ λ e. spent greatest bs
     ] in
-    ap (λ t. fold (grown greatest) (if t && nat_le (more n b) greatest then Some (more n b) else None) bs) digit
+    ap (λ t. fold (push_digit greatest) (if t && nat_le (more n b) greatest then Some (more n b) else None) bs) digit
     ∙ turn (nat_le (more n b) greatest) refl
 
 digits : (text : List ℕ) → is_numeral text ≡ true → list_all is_digit text ≡ true
@@ -69,9 +69,9 @@ data Ways (greatest n : ℕ) (r : Option ℕ) : Type 0 where
   taken : n ≤ greatest → r ≡ Some n → Ways greatest n r
   left : greatest < n → r ≡ None → Ways greatest n r
 
-ways : (greatest : ℕ) (text : List ℕ) → is_numeral text ≡ true → Ways greatest (number_of text) (fold (grown greatest) (Some 0) text)
+ways : (greatest : ℕ) (text : List ℕ) → is_numeral text ≡ true → Ways greatest (number_of text) (fold (push_digit greatest) (Some 0) text)
 ways greatest text h =
-    let turn : (t : Bool) → nat_le (number_of text) greatest ≡ t → Ways greatest (number_of text) (fold (grown greatest) (Some 0) text) = λ t. elim t as (λ t. nat_le (number_of text) greatest ≡ t → Ways greatest (number_of text) (fold (grown greatest) (Some 0) text)) [
+    let turn : (t : Bool) → nat_le (number_of text) greatest ≡ t → Ways greatest (number_of text) (fold (push_digit greatest) (Some 0) text) = λ t. elim t as (λ t. nat_le (number_of text) greatest ≡ t → Ways greatest (number_of text) (fold (push_digit greatest) (Some 0) text)) [
       | true ↦ λ e. taken (is_below (number_of text) greatest e) (fits_in greatest 0 text (digits text h) (is_below (number_of text) greatest e))
       | false ↦ λ e. left (is_above (number_of text) greatest e) (too_great greatest 0 text (omega arith) (digits text h) (is_above (number_of text) greatest e))
     ] in
@@ -95,7 +95,7 @@ pub no_numeral : (least greatest : ℕ) (text : List ℕ) → is_numeral text �
 unfolding number_within
 no_numeral least greatest text e = sym (ap (λ t. number_if t (nat_le least (number_of text)) (nat_le (number_of text) greatest) (number_of text)) e)
 
-pub no_number : (least greatest : ℕ) (text : List ℕ) → is_numeral text ≡ true → fold (grown greatest) (Some 0) text ≡ None → None ≡ number_within least greatest text
+pub no_number : (least greatest : ℕ) (text : List ℕ) → is_numeral text ≡ true → fold (push_digit greatest) (Some 0) text ≡ None → None ≡ number_within least greatest text
 unfolding number_within
 no_number least greatest text e f = elim (ways greatest text e) [
   | taken le g ↦ cc
@@ -105,7 +105,7 @@ no_number least greatest text e f = elim (ways greatest text e) [
 some_is : (n m : ℕ) (r : Option ℕ) → r ≡ Some n → r ≡ Some m → n ≡ m
 some_is n m r e f = cc
 
-pub a_number : (least greatest n : ℕ) (text : List ℕ) → is_numeral text ≡ true → fold (grown greatest) (Some 0) text ≡ Some n → least ≤ n → Some n ≡ number_within least greatest text
+pub a_number : (least greatest n : ℕ) (text : List ℕ) → is_numeral text ≡ true → fold (push_digit greatest) (Some 0) text ≡ Some n → least ≤ n → Some n ≡ number_within least greatest text
 unfolding number_within
 a_number least greatest n text e f le = elim (ways greatest text e) [
   | taken small g ↦
@@ -114,7 +114,7 @@ a_number least greatest n text e f le = elim (ways greatest text e) [
   | left lt g ↦ cc
 ]
 
-pub too_little : (least greatest n : ℕ) (text : List ℕ) → is_numeral text ≡ true → fold (grown greatest) (Some 0) text ≡ Some n → n < least → None ≡ number_within least greatest text
+pub too_little : (least greatest n : ℕ) (text : List ℕ) → is_numeral text ≡ true → fold (push_digit greatest) (Some 0) text ≡ Some n → n < least → None ≡ number_within least greatest text
 unfolding number_within
 too_little least greatest n text e f lt = elim (ways greatest text e) [
   | taken small g ↦

@@ -32,9 +32,9 @@ number_within least greatest text =
     if is_numeral text && (nat_le least (number_of text) && nat_le (number_of text) greatest) then Some (number_of text) else None
 
 -- the number so far with one more digit, up to the greatest
-abbrev pub grown : ℕ → Option ℕ → ℕ → Option ℕ
-grown greatest None b = None
-grown greatest (Some n) b = if is_digit b && nat_le (10 * n + (b - 48)) greatest then Some (10 * n + (b - 48)) else None
+abbrev pub push_digit : ℕ → Option ℕ → ℕ → Option ℕ
+push_digit greatest None b = None
+push_digit greatest (Some n) b = if is_digit b && nat_le (10 * n + (b - 48)) greatest then Some (10 * n + (b - 48)) else None
 
 -- ---- the items: a mode, or an option with its number
 

@@ -84,8 +84,8 @@ fn is_numeral(text: &[u8]) -> bool
 }
 
 /// The number so far with one more digit, up to the greatest.
-fn grown(greatest: u32, number: Option<u32>, digit: u8) -> Option<u32>
-    ensures { result ≡ spec.grown greatest number digit }
+fn push_digit(greatest: u32, number: Option<u32>, digit: u8) -> Option<u32>
+    ensures { result ≡ spec.push_digit greatest number digit }
 {
     let n = number?;
     if !is_digit(digit) {
@@ -101,11 +101,11 @@ fn grown(greatest: u32, number: Option<u32>, digit: u8) -> Option<u32>
 
 /// The number that these digits write, up to the greatest.
 fn number_up_to(greatest: u32, text: &[u8]) -> Option<u32>
-    ensures { result ≡ fold (spec.grown greatest) (Some 0) text.now }
+    ensures { result ≡ fold (spec.push_digit greatest) (Some 0) text.now }
 {
     let mut number = Some(0);
     for digit in text {
-        number = grown(greatest, number, *digit);
+        number = push_digit(greatest, number, *digit);
     }
     number
 }

@@ -1,10 +1,10 @@
 use Rattle.std.proofs.Common.{ap}
 use Rattle.sy_onecopy.specs.Step.{give_all}
-use Rattle.sy_settling.proofs.SettledAskLemmas.{ask-settle, begun-settle}
+use Rattle.sy_settling.proofs.SettledAskLemmas.{ask-settle, begin_ask-settle}
 use Rattle.sy_settling.proofs.laws.effects_commute_with_settling.Goals as goal
 
-pub returns-clause-begun : goal.returns-clause-begun
-returns-clause-begun c = begun-settle
+pub returns-clause-begin_ask : goal.returns-clause-begin_ask
+returns-clause-begin_ask c = begin_ask-settle
 
 pub returns-clause-settled : goal.returns-clause-settled
 returns-clause-settled c = ask-settle

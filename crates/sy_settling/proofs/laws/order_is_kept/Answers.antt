@@ -1,7 +1,7 @@
 use Rattle.sy_settling.proofs.OrderlyEffectLemmas.{orderly-effect}
 use Rattle.sy_settling.proofs.SettleLemmas.{orderly-settle}
 use Rattle.sy_settling.proofs.SettledAskLemmas.{may_ask-effect}
-use Rattle.sy_settling.proofs.LegalOrderLemmas.{orderly-opening, orderly-begun, orderly-apply, orderly-give, orderly-heard}
+use Rattle.sy_settling.proofs.LegalOrderLemmas.{orderly-opening, orderly-begin_ask, orderly-apply, orderly-give, orderly-heard}
 use Rattle.sy_settling.proofs.DeferredLemmas.{orderly-told}
 use Rattle.sy_settling.proofs.laws.order_is_kept.Goals as goal
 
@@ -17,8 +17,8 @@ returns-clause-may_ask c out b k e t q o f m = may_ask-effect out b k e t q m (r
 pub returns-clause-settled : goal.returns-clause-settled
 returns-clause-settled c = orderly-settle
 
-pub returns-clause-begun : goal.returns-clause-begun
-returns-clause-begun c = orderly-begun
+pub returns-clause-begin_ask : goal.returns-clause-begin_ask
+returns-clause-begin_ask c = orderly-begin_ask
 
 pub returns-clause-asked : goal.returns-clause-asked
 returns-clause-asked c = orderly-apply
