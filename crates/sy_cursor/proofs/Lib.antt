@@ -1,2 +1,2 @@
-pub mod Turns
+pub mod TurnLemmas
 pub mod StepLaws

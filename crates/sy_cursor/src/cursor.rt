@@ -10,11 +10,14 @@ use std::alloc::{AllocError, Global};
 use sy_lex::{Row, Text, Token, Word};
 use sy_note::Spot;
 use sy_tree::{Lexeme, Qualified};
+use thiserror::Error;
 
 /// Why a reader stops. Where the grammar stops it, the cursor stands at the token that doesn't fit.
-#[derive(Clone, Copy, Debug, PartialEq, Eq)]
+#[derive(Clone, Copy, Debug, PartialEq, Eq, Error)]
 pub enum Stop {
+    #[error("the tokens don't fit the grammar")]
     Grammar,
+    #[error("out of memory")]
     Memory,
 }
 
@@ -30,7 +33,7 @@ impl From<AllocError> for Stop {
 }
 
 /// A part of a tree, and the height of the highest node in it.
-pub type Tall<A> = (A, u32);
+pub type WithHeight<A> = (A, u32);
 
 /// The greatest height of a tree.
 pub const MAX_HEIGHT: u32 = 64;
@@ -45,8 +48,12 @@ pub struct Tokens<'a> {
 }
 
 /// A node over children of that height, unless it is too high.
-pub fn grown<A: Drop>(tokens: &Tokens<'_>, tree: A, height: u32) -> Result<Tall<A>, Stop>
-    ensures { Reads (spec.grown tree height tokens.now.rest.now) result tokens.now.rest.now }
+pub fn check_height<A: Drop>(
+    tokens: &Tokens<'_>,
+    tree: A,
+    height: u32,
+) -> Result<WithHeight<A>, Stop>
+    ensures { Reads (spec.check_height tree height tokens.now.rest.now) result tokens.now.rest.now }
 {
     if height < MAX_HEIGHT {
         Ok((tree, height + 1))
@@ -116,7 +123,7 @@ impl<'a> Tokens<'a> {
     }
 
     /// How many tokens are left.
-    pub fn left(&self) -> usize
+    pub fn count_left(&self) -> usize
         ensures { result ≡ length self.now.rest.now }
     {
         self.rest.len()
@@ -215,9 +222,9 @@ impl<'a> Tokens<'a> {
     }
 
     /// Takes a token of that row, with a copy of its text.
-    #[tactic(auto, unfolding(sy_reading::specs::Input::lexed))]
-    pub fn lexed(&mut self, row: Row) -> Result<Lexeme, Stop>
-        ensures { Reads (spec.lexed row self.old.rest.now) result self.new.rest.now }
+    #[tactic(auto, unfolding(sy_reading::specs::Input::expect_row))]
+    pub fn expect_row(&mut self, row: Row) -> Result<Lexeme, Stop>
+        ensures { Reads (spec.expect_row row self.old.rest.now) result self.new.rest.now }
     {
         match self.rest {
             [] => Err(Stop::Grammar),
@@ -261,13 +268,13 @@ impl<'a> Tokens<'a> {
     }
 
     /// Takes any name of that namespace.
-    #[tactic(auto, unfolding(sy_reading::specs::Input::named))]
-    pub fn named(&mut self, space: &[u8]) -> Result<(Spot, Lexeme), Stop>
-        ensures { Reads (spec.named space.now self.old.rest.now) result self.new.rest.now }
+    #[tactic(auto, unfolding(sy_reading::specs::Input::expect_name))]
+    pub fn expect_name(&mut self, space: &[u8]) -> Result<(Spot, Lexeme), Stop>
+        ensures { Reads (spec.expect_name space.now self.old.rest.now) result self.new.rest.now }
     {
         let namespace = self.expect(Row::Ident, space)?;
         self.expect(Row::Mark, b"::")?;
-        let name = self.lexed(Row::Ident)?;
+        let name = self.expect_row(Row::Ident)?;
         Ok((namespace, name))
     }
 

@@ -10,11 +10,11 @@ mod tables;
 #[cfg(test)]
 mod tests;
 
-pub use cursor::{MAX_HEIGHT, Stop, Tall, Tokens, grown};
+pub use cursor::{MAX_HEIGHT, Stop, Tokens, WithHeight, check_height};
 pub use parts::{
-    captures, closed, closing_text, const_specifier, declares_object, elements, empty_brackets,
-    integral, maybe_parameters, maybe_template_argument, object_by, object_type, one_word, opened,
-    qualified, sees_type, type_specifier,
+    captures, closing_text, const_specifier, declares_object, elements, empty_brackets,
+    expect_close, expect_open, integral, maybe_parameters, maybe_template_argument, object_by,
+    object_type, one_word, qualified_name, sees_type, type_specifier,
 };
 pub use steps::{beside, maybe_boxed, pair, triple};
 pub use tables::{

@@ -5,7 +5,7 @@ ghost use Rattle.sy_reading.specs.Input as input;
 ghost use Rattle.sy_reading.specs.Parts as spec;
 ghost use Rattle.sy_cursor.specs.Reads.{Reads};
 
-use crate::cursor::{Stop, Tall, Tokens};
+use crate::cursor::{Stop, Tokens, WithHeight};
 use crate::tables::{one_word_of, plain_object_of, takes_template_argument};
 use sqlite_items::Items;
 use sy_lex::Row;
@@ -27,9 +27,9 @@ pub fn closing_text(brackets: Brackets) -> &'static [u8]
 }
 
 /// `(` or `{`.
-#[tactic(auto, unfolding(sy_reading::specs::Parts::opened))]
-pub fn opened(tokens: &mut Tokens<'_>) -> Result<(Brackets, Spot), Stop>
-    ensures { Reads (spec.opened tokens.old.rest.now) result tokens.new.rest.now }
+#[tactic(auto, unfolding(sy_reading::specs::Parts::expect_open))]
+pub fn expect_open(tokens: &mut Tokens<'_>) -> Result<(Brackets, Spot), Stop>
+    ensures { Reads (spec.expect_open tokens.old.rest.now) result tokens.new.rest.now }
 {
     if tokens.sees(Row::Mark, b"(") {
         let spot = tokens.expect(Row::Mark, b"(")?;
@@ -41,9 +41,9 @@ pub fn opened(tokens: &mut Tokens<'_>) -> Result<(Brackets, Spot), Stop>
 }
 
 /// The bracket that closes.
-#[tactic(auto, unfolding(sy_reading::specs::Parts::closed))]
-pub fn closed(tokens: &mut Tokens<'_>, brackets: Brackets) -> Result<Spot, Stop>
-    ensures { Reads (spec.closed brackets tokens.old.rest.now) result tokens.new.rest.now }
+#[tactic(auto, unfolding(sy_reading::specs::Parts::expect_close))]
+pub fn expect_close(tokens: &mut Tokens<'_>, brackets: Brackets) -> Result<Spot, Stop>
+    ensures { Reads (spec.expect_close brackets tokens.old.rest.now) result tokens.new.rest.now }
 {
     tokens.expect(Row::Mark, closing_text(brackets))
 }
@@ -53,8 +53,8 @@ pub fn closed(tokens: &mut Tokens<'_>, brackets: Brackets) -> Result<Spot, Stop>
 pub fn empty_brackets(tokens: &mut Tokens<'_>) -> Result<(Brackets, Spot), Stop>
     ensures { Reads (spec.empty_brackets tokens.old.rest.now) result tokens.new.rest.now }
 {
-    let (brackets, _open) = opened(tokens)?;
-    let close = closed(tokens, brackets)?;
+    let (brackets, _open) = expect_open(tokens)?;
+    let close = expect_close(tokens, brackets)?;
     Ok((brackets, close))
 }
 
@@ -128,7 +128,7 @@ fn kind_by(tokens: &mut Tokens<'_>, text: &[u8]) -> Result<Kind, Stop>
 pub fn integral(tokens: &mut Tokens<'_>) -> Result<IntegerType, Stop>
     ensures { Reads (spec.integral tokens.old.rest.now) result tokens.new.rest.now }
 {
-    let word = tokens.lexed(Row::Reserved)?;
+    let word = tokens.expect_row(Row::Reserved)?;
     let kind = kind_by(tokens, word.text.items())?;
     Ok(IntegerType {
         spot: word.spot,
@@ -141,7 +141,7 @@ pub fn integral(tokens: &mut Tokens<'_>) -> Result<IntegerType, Stop>
 pub fn one_word(tokens: &mut Tokens<'_>) -> Result<IntegerType, Stop>
     ensures { Reads (spec.one_word tokens.old.rest.now) result tokens.new.rest.now }
 {
-    let word = tokens.lexed(Row::Reserved)?;
+    let word = tokens.expect_row(Row::Reserved)?;
     match one_word_of(word.text.items()) {
         Some(kind) => Ok(IntegerType {
             spot: word.spot,
@@ -200,7 +200,7 @@ fn dimensions(tokens: &mut Tokens<'_>) -> Result<Lexeme, Stop>
     ensures { Reads (spec.dimensions tokens.old.rest.now) result tokens.new.rest.now }
 {
     tokens.expect(Row::Mark, b"<")?;
-    let number = tokens.lexed(Row::Int)?;
+    let number = tokens.expect_row(Row::Int)?;
     tokens.expect(Row::Mark, b">")?;
     Ok(number)
 }
@@ -222,7 +222,7 @@ fn comma_dimensions(tokens: &mut Tokens<'_>) -> Result<Option<Lexeme>, Stop>
     ensures { Reads (spec.comma_dimensions tokens.old.rest.now) result tokens.new.rest.now }
 {
     if tokens.eat(Row::Mark, b",") {
-        let number = tokens.lexed(Row::Int)?;
+        let number = tokens.expect_row(Row::Int)?;
         Ok(Some(number))
     } else {
         Ok(None)
@@ -297,8 +297,8 @@ pub fn object_by(tokens: &mut Tokens<'_>, name: Qualified, text: &[u8]) -> Resul
 }
 
 /// The whole name, of which the namespace stands there.
-pub fn qualified(namespace: Spot, name: &Lexeme) -> Qualified
-    ensures { result ≡ input.qualified (namespace, name.now) }
+pub fn qualified_name(namespace: Spot, name: &Lexeme) -> Qualified
+    ensures { result ≡ input.qualified_name (namespace, name.now) }
 {
     Qualified {
         namespace,
@@ -311,8 +311,8 @@ pub fn qualified(namespace: Spot, name: &Lexeme) -> Qualified
 pub fn object_type(tokens: &mut Tokens<'_>) -> Result<ObjectType, Stop>
     ensures { Reads (spec.object_type tokens.old.rest.now) result tokens.new.rest.now }
 {
-    let (namespace, name) = tokens.named(b"sycl")?;
-    object_by(tokens, qualified(namespace, &name), name.text.items())
+    let (namespace, name) = tokens.expect_name(b"sycl")?;
+    object_by(tokens, qualified_name(namespace, &name), name.text.items())
 }
 
 /// Whether the type of an object of the library and a name come next.
@@ -329,12 +329,12 @@ pub fn declares_object(tokens: &Tokens<'_>) -> Result<bool, Stop>
 }
 
 #[tactic(auto, unfolding(sy_reading::specs::Parts::reference_capture))]
-fn reference_capture(tokens: &mut Tokens<'_>) -> Result<Tall<Capture>, Stop>
+fn reference_capture(tokens: &mut Tokens<'_>) -> Result<WithHeight<Capture>, Stop>
     ensures { Reads (spec.reference_capture tokens.old.rest.now) result tokens.new.rest.now }
 {
     let spot = tokens.expect(Row::Mark, b"&")?;
     if tokens.sees_row(Row::Ident) {
-        let name = tokens.lexed(Row::Ident)?;
+        let name = tokens.expect_row(Row::Ident)?;
         Ok((Capture::Reference(spot, name), 0))
     } else {
         Ok((Capture::DefaultReference(spot), 0))
@@ -342,7 +342,7 @@ fn reference_capture(tokens: &mut Tokens<'_>) -> Result<Tall<Capture>, Stop>
 }
 
 #[tactic(auto, unfolding(sy_reading::specs::Parts::one_capture))]
-fn one_capture(tokens: &mut Tokens<'_>) -> Result<Tall<Capture>, Stop>
+fn one_capture(tokens: &mut Tokens<'_>) -> Result<WithHeight<Capture>, Stop>
     ensures { Reads (spec.one_capture tokens.old.rest.now) result tokens.new.rest.now }
 {
     if tokens.sees(Row::Mark, b"&") {
@@ -351,17 +351,17 @@ fn one_capture(tokens: &mut Tokens<'_>) -> Result<Tall<Capture>, Stop>
         let spot = tokens.expect(Row::Mark, b"=")?;
         Ok((Capture::DefaultCopy(spot), 0))
     } else {
-        let name = tokens.lexed(Row::Ident)?;
+        let name = tokens.expect_row(Row::Ident)?;
         Ok((Capture::Copy(name), 0))
     }
 }
 
-fn capture_list(tokens: &mut Tokens<'_>) -> Result<Tall<Items<Capture>>, Stop>
-    ensures { Reads (input.listed spec.one_capture (length tokens.old.rest.now) [] 0 tokens.old.rest.now) result tokens.new.rest.now }
+fn capture_list(tokens: &mut Tokens<'_>) -> Result<WithHeight<Items<Capture>>, Stop>
+    ensures { Reads (input.comma_list_from spec.one_capture (length tokens.old.rest.now) [] 0 tokens.old.rest.now) result tokens.new.rest.now }
 {
     let mut items = Items::new(tokens.alloc);
     let mut height = 0;
-    for _turn in 0..tokens.left() {
+    for _turn in 0..tokens.count_left() {
         let (item, tall) = one_capture(tokens)?;
         items.push(item)?;
         height = height.max(tall);
@@ -373,9 +373,9 @@ fn capture_list(tokens: &mut Tokens<'_>) -> Result<Tall<Items<Capture>>, Stop>
 }
 
 /// The captures, up to the `]`.
-#[tactic(auto, unfolding(sy_reading::specs::Input::maybe_listed))]
-pub fn captures(tokens: &mut Tokens<'_>) -> Result<Tall<Items<Capture>>, Stop>
-    ensures { Reads (input.maybe_listed spec.one_capture (codes "]") tokens.old.rest.now) result tokens.new.rest.now }
+#[tactic(auto, unfolding(sy_reading::specs::Input::maybe_comma_list))]
+pub fn captures(tokens: &mut Tokens<'_>) -> Result<WithHeight<Items<Capture>>, Stop>
+    ensures { Reads (input.maybe_comma_list spec.one_capture (codes "]") tokens.old.rest.now) result tokens.new.rest.now }
 {
     if tokens.sees(Row::Mark, b"]") {
         return Ok((Items::new(tokens.alloc), 0));
@@ -416,17 +416,17 @@ fn parameter_type(tokens: &mut Tokens<'_>) -> Result<LambdaParameterType, Stop>
         let spot = tokens.expect(Row::Reserved, b"auto")?;
         return Ok(LambdaParameterType::Auto(spot));
     }
-    let (namespace, name) = tokens.named(b"sycl")?;
-    parameter_by(tokens, qualified(namespace, &name), name.text.items())
+    let (namespace, name) = tokens.expect_name(b"sycl")?;
+    parameter_by(tokens, qualified_name(namespace, &name), name.text.items())
 }
 
 #[tactic(auto, unfolding(sy_reading::specs::Parts::one_parameter))]
-fn one_parameter(tokens: &mut Tokens<'_>) -> Result<Tall<LambdaParameter>, Stop>
+fn one_parameter(tokens: &mut Tokens<'_>) -> Result<WithHeight<LambdaParameter>, Stop>
     ensures { Reads (spec.one_parameter tokens.old.rest.now) result tokens.new.rest.now }
 {
     let of = parameter_type(tokens)?;
     let by_reference = tokens.eat(Row::Mark, b"&");
-    let name = tokens.lexed(Row::Ident)?;
+    let name = tokens.expect_row(Row::Ident)?;
     Ok((
         LambdaParameter {
             of,
@@ -437,12 +437,12 @@ fn one_parameter(tokens: &mut Tokens<'_>) -> Result<Tall<LambdaParameter>, Stop>
     ))
 }
 
-fn parameter_list(tokens: &mut Tokens<'_>) -> Result<Tall<Items<LambdaParameter>>, Stop>
-    ensures { Reads (input.listed spec.one_parameter (length tokens.old.rest.now) [] 0 tokens.old.rest.now) result tokens.new.rest.now }
+fn parameter_list(tokens: &mut Tokens<'_>) -> Result<WithHeight<Items<LambdaParameter>>, Stop>
+    ensures { Reads (input.comma_list_from spec.one_parameter (length tokens.old.rest.now) [] 0 tokens.old.rest.now) result tokens.new.rest.now }
 {
     let mut items = Items::new(tokens.alloc);
     let mut height = 0;
-    for _turn in 0..tokens.left() {
+    for _turn in 0..tokens.count_left() {
         let (item, tall) = one_parameter(tokens)?;
         items.push(item)?;
         height = height.max(tall);
@@ -453,9 +453,9 @@ fn parameter_list(tokens: &mut Tokens<'_>) -> Result<Tall<Items<LambdaParameter>
     Err(Stop::Grammar)
 }
 
-#[tactic(auto, unfolding(sy_reading::specs::Input::maybe_listed))]
-fn parameters(tokens: &mut Tokens<'_>) -> Result<Tall<Items<LambdaParameter>>, Stop>
-    ensures { Reads (input.maybe_listed spec.one_parameter (codes ")") tokens.old.rest.now) result tokens.new.rest.now }
+#[tactic(auto, unfolding(sy_reading::specs::Input::maybe_comma_list))]
+fn parameters(tokens: &mut Tokens<'_>) -> Result<WithHeight<Items<LambdaParameter>>, Stop>
+    ensures { Reads (input.maybe_comma_list spec.one_parameter (codes ")") tokens.old.rest.now) result tokens.new.rest.now }
 {
     if tokens.sees(Row::Mark, b")") {
         return Ok((Items::new(tokens.alloc), 0));
@@ -481,7 +481,7 @@ fn kernel_name(tokens: &mut Tokens<'_>) -> Result<TemplateArgument, Stop>
     ensures { Reads (spec.kernel_name tokens.old.rest.now) result tokens.new.rest.now }
 {
     let is_class = tokens.eat(Row::Reserved, b"class");
-    let name = tokens.lexed(Row::Ident)?;
+    let name = tokens.expect_row(Row::Ident)?;
     Ok(TemplateArgument::Kernel(is_class, name))
 }
 
@@ -491,9 +491,9 @@ fn information(tokens: &mut Tokens<'_>) -> Result<TemplateArgument, Stop>
 {
     let info = tokens.within(b"sycl", b"info")?;
     tokens.expect(Row::Mark, b"::")?;
-    let object = tokens.lexed(Row::Ident)?;
+    let object = tokens.expect_row(Row::Ident)?;
     tokens.expect(Row::Mark, b"::")?;
-    let name = tokens.lexed(Row::Ident)?;
+    let name = tokens.expect_row(Row::Ident)?;
     Ok(TemplateArgument::Information(info, object, name))
 }
 

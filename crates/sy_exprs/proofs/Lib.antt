@@ -1,3 +1,1 @@
-mod Identity
-mod Members
-mod Options
+mod PropertyLemmas

@@ -1,3 +1,2 @@
-pub mod Names
-pub mod Refusals
+pub mod RefusalLemmas
 pub mod RunLaws

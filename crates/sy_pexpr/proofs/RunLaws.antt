@@ -7,11 +7,11 @@ use Rattle.sy_tree.specs.Expressions.{Node, an_expr, a_block}
 use Rattle.sy_tree.specs.Grammar.{Derives}
 use Rattle.sy_tree.specs.Units.{IsExpression, IsBlock, ends}
 use Rattle.sy_tree.proofs.Theorems.{Derives-takes}
-use Rattle.sy_reading.specs.Input.{Tall}
+use Rattle.sy_reading.specs.Input.{WithHeight}
 use Rattle.sy_reading.specs.Reading.{read_expr, read_block}
-use Rattle.sy_reading.proofs.Answer.{expr_found, block_found}
-use Rattle.sy_reading.proofs.OneTree.{one_expr, one_block}
-use Rattle.sy_reading.proofs.Runs.{runs_are_read, blocks_are_read}
+use Rattle.sy_reading.proofs.AnswerLaws.{expr_found, block_found}
+use Rattle.sy_reading.proofs.OneTreeLaws.{one_expr, one_block}
+use Rattle.sy_reading.proofs.RunLaws.{runs_are_read, blocks_are_read}
 use Rattle.sy_pexpr.specs.Runs.{IsOnlyExpression, IsOnlyBlock, HasNoExpression, HasNoBlock}
 
 one : {Y : Type 0} (p q : Y) → Some p ≡ Some q → p ≡ q
@@ -42,9 +42,9 @@ module _ (toks : List Token) (at : ℕ) where
       let clash : None ≡ Some ((x, again.0), drop end toks) = sym none ∙ again.1 in
       absurd (cc clash)
 
-  pub not_ended : (t : Tall Expr) (rest : List Token) → read_expr 64 1 (drop at toks) ≡ Some (t, rest) → ends rest ≡ false → HasNoExpression toks at
+  pub not_ended : (t : WithHeight Expr) (rest : List Token) → read_expr 64 1 (drop at toks) ≡ Some (t, rest) → ends rest ≡ false → HasNoExpression toks at
   not_ended t rest answer unended = λ x end run. let again = runs_are_read toks at x end run in
-      let same = same_answer {A = Tall Expr} (read_expr 64 1 (drop at toks)) t (x, again.0) rest (drop end toks) answer again.1 in
+      let same = same_answer {A = WithHeight Expr} (read_expr 64 1 (drop at toks)) t (x, again.0) rest (drop end toks) answer again.1 in
       let clash : false ≡ true = sym unended ∙ ap ends same.1 ∙ run.ended in
       absurd (cc clash)
 
@@ -64,7 +64,7 @@ module _ (toks : List Token) (at : ℕ) where
   -- ---- the same of a list that is the rest
 
   module _ (ts : List Token) (is : ts ≡ drop at toks) where
-    pub found_from : (t : Tall Expr) (rest : List Token) (end : ℕ) → at ≤ length toks → read_expr 64 1 ts ≡ Some (t, rest) → ends rest ≡ true → end ≡ length toks - length rest →
+    pub found_from : (t : WithHeight Expr) (rest : List Token) (end : ℕ) → at ≤ length toks → read_expr 64 1 ts ≡ Some (t, rest) → ends rest ≡ true → end ≡ length toks - length rest →
         IsExpression toks at t.0 end
     found_from t rest end within answer ended e =
         subst (λ k. IsExpression toks at t.0 k) (sym e) (expr_found toks at t rest within (subst (λ us. read_expr 64 1 us ≡ Some (t, rest)) is answer) ended)
@@ -72,10 +72,10 @@ module _ (toks : List Token) (at : ℕ) where
     pub none_from : read_expr 64 1 ts ≡ None → HasNoExpression toks at
     none_from answer = no_answer (subst (λ us. read_expr 64 1 us ≡ None) is answer)
 
-    pub unended_from : (t : Tall Expr) (rest : List Token) → read_expr 64 1 ts ≡ Some (t, rest) → ends rest ≡ false → HasNoExpression toks at
+    pub unended_from : (t : WithHeight Expr) (rest : List Token) → read_expr 64 1 ts ≡ Some (t, rest) → ends rest ≡ false → HasNoExpression toks at
     unended_from t rest answer unended = not_ended t rest (subst (λ us. read_expr 64 1 us ≡ Some (t, rest)) is answer) unended
 
-    pub block_from : (b : Tall Block) (rest : List Token) (end : ℕ) → at ≤ length toks → read_block 64 ts ≡ Some (b, rest) → end ≡ length toks - length rest → IsBlock toks at b.0 end
+    pub block_from : (b : WithHeight Block) (rest : List Token) (end : ℕ) → at ≤ length toks → read_block 64 ts ≡ Some (b, rest) → end ≡ length toks - length rest → IsBlock toks at b.0 end
     block_from b rest end within answer e =
         subst (λ k. IsBlock toks at b.0 k) (sym e) (block_found toks at b rest within (subst (λ us. read_block 64 us ≡ Some (b, rest)) is answer))
 

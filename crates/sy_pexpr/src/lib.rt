@@ -1,4 +1,4 @@
-//! The parser of expressions, declarations, statements and blocks.
+//! The parser of expressions, statements and blocks, which hold one another.
 #![tactic(auto)]
 
 ghost use Rattle.std.specs.Prelude.{◌≡◌, IfOk, IsErrOf};
@@ -6,13 +6,10 @@ ghost use Rattle.sy_note.specs.declared.Diagnostic.{Diagnostic};
 ghost use Rattle.sy_tree.specs.Units.{IsExpression, IsBlock};
 ghost use Rattle.sy_pexpr.specs.Runs.{IsOnlyExpression, IsOnlyBlock, HasNoExpression, HasNoBlock};
 
-mod control;
-mod declarations;
+mod expressions;
+mod for_loops;
 mod recursion;
-mod simple;
 mod statements;
-#[cfg(test)]
-mod tests;
 
 pub use recursion::{read_block, read_expr};
 use std::alloc::Global;
@@ -62,12 +59,12 @@ pub fn expr(alloc: Global, toks: &[Token], at: usize) -> Result<(Expr, usize), F
     match read_expr(&mut tokens, 64, 1) {
         Ok((tree, _height)) => {
             if tokens.ends() {
-                Ok((tree, toks.len().saturating_sub(tokens.left())))
+                Ok((tree, toks.len().saturating_sub(tokens.count_left())))
             } else {
-                Err(FrontStop::Refused(refusal(toks, tokens.left())))
+                Err(FrontStop::Refused(refusal(toks, tokens.count_left())))
             }
         }
-        Err(Stop::Grammar) => Err(FrontStop::Refused(refusal(toks, tokens.left()))),
+        Err(Stop::Grammar) => Err(FrontStop::Refused(refusal(toks, tokens.count_left()))),
         Err(Stop::Memory) => Err(FrontStop::Memory),
     }
 }
@@ -85,8 +82,8 @@ pub fn block(alloc: Global, toks: &[Token], at: usize) -> Result<(Block, usize),
     let (_before, rest) = toks.split_at(at);
     let mut tokens = Tokens::new(alloc, rest);
     match read_block(&mut tokens) {
-        Ok((tree, _height)) => Ok((tree, toks.len().saturating_sub(tokens.left()))),
-        Err(Stop::Grammar) => Err(FrontStop::Refused(refusal(toks, tokens.left()))),
+        Ok((tree, _height)) => Ok((tree, toks.len().saturating_sub(tokens.count_left()))),
+        Err(Stop::Grammar) => Err(FrontStop::Refused(refusal(toks, tokens.count_left()))),
         Err(Stop::Memory) => Err(FrontStop::Memory),
     }
 }

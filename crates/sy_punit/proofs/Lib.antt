@@ -1,4 +1,4 @@
-pub mod Kept
-pub mod Parsed
-pub mod UnitRead
-pub mod UnitSound
+pub mod KeepLemmas
+pub mod ParseLaws
+pub mod UnitReadLemmas
+pub mod UnitSoundLemmas

@@ -9,8 +9,8 @@ drops_std (s ∷ c ∷ t ∷ more) = is_std s.word && is_scope c.word && is_type
 drops_std _ = false
 
 -- a token, with its namespace if it is to have one
-abbrev pub written : Bool → Token → List Token
-written named t = if named then with_namespace t else t ∷ []
+abbrev pub with_namespace_if : Bool → Token → List Token
+with_namespace_if named t = if named then with_namespace t else t ∷ []
 
 -- the names of the library in three parts: types, values and namespaces, functions and function objects
 abbrev pub type_names : List (List ℕ)

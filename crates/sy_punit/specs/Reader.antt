@@ -26,7 +26,7 @@ use Rattle.sy_tree.specs.declared.tree.FileItem.TheVariants as item
 use Rattle.sy_tree.specs.declared.tree.Function.{Function}
 use Rattle.sy_tree.specs.declared.tree.Unit.{Unit as SourceUnit}
 use Rattle.sy_tree.specs.Units.{ends}
-use Rattle.sy_reading.specs.Input.{Reader, Tall, ◌>>=◌, ◌>>◌, pure, refuse, sees, sees_row, sees_namespace, expect, advance, lexed, eat, within, maybe_listed}
+use Rattle.sy_reading.specs.Input.{Reader, WithHeight, ◌>>=◌, ◌>>◌, pure, refuse, sees, sees_row, sees_namespace, expect, advance, expect_row, eat, within, maybe_comma_list}
 use Rattle.sy_reading.specs.Parts.{integral, type_specifier, object_type}
 use Rattle.sy_reading.specs.Reading.{read_expr, read_block}
 
@@ -40,9 +40,9 @@ module _ {A : Type 0} (begins : List Token → Bool) (one : Reader A) where
   all_each = λ ts. each (length ts) [] ts
 
 -- what was found, if it was
-abbrev pub found : {A : Type 0} → Option A → Reader A
-found None = refuse
-found (Some a) = pure a
+abbrev pub require : {A : Type 0} → Option A → Reader A
+require None = refuse
+require (Some a) = pure a
 
 -- ---- parameters
 
@@ -58,35 +58,35 @@ reference_of _ = None
 unfoldable pub reference_type : Reader ReferenceType
 reference_type = do
   t ← object_type
-  found (reference_of t)
+  require (reference_of t)
 
 -- rtype "&" IDENT
-unfoldable pub object_parameter : Reader (Tall Parameter)
+unfoldable pub object_parameter : Reader (WithHeight Parameter)
 object_parameter = do
   t ← reference_type
   expect row.Mark (codes "&")
-  x ← lexed row.Ident
+  x ← expect_row row.Ident
   pure (parameter.Object t x, 0)
 
 -- vint "&" IDENT
-unfoldable pub vector_parameter : Bool → Reader (Tall Parameter)
+unfoldable pub vector_parameter : Bool → Reader (WithHeight Parameter)
 vector_parameter fixed = do
   q ← within (codes "std") (codes "vector")
   expect row.Mark (codes "<")
   t ← integral
   expect row.Mark (codes ">")
   expect row.Mark (codes "&")
-  x ← lexed row.Ident
+  x ← expect_row row.Ident
   pure (parameter.Vector fixed q t x, 0)
 
 -- ktype IDENT
-unfoldable pub integer_parameter : Bool → Reader (Tall Parameter)
+unfoldable pub integer_parameter : Bool → Reader (WithHeight Parameter)
 integer_parameter fixed = do
   t ← integral
-  x ← lexed row.Ident
+  x ← expect_row row.Ident
   pure (parameter.Integer fixed t x, 0)
 
-unfoldable pub one_parameter : Reader (Tall Parameter)
+unfoldable pub one_parameter : Reader (WithHeight Parameter)
 one_parameter = do
   fixed ← eat row.Reserved (codes "const")
   λ ts. if sees_namespace (codes "std") ts then vector_parameter fixed ts
@@ -122,7 +122,7 @@ equal_value x = do
 
 unfoldable pub constant_declarator : Reader Declarator
 constant_declarator = do
-  x ← lexed row.Ident
+  x ← expect_row row.Ident
   λ ts. if sees row.Mark (codes "{") ts then braced_value x ts else equal_value x ts
 
 unfoldable pub constant : Reader Constant
@@ -149,9 +149,9 @@ body = do
 unfoldable pub function : Reader Function
 function = do
   t ← return_type
-  x ← lexed row.Ident
+  x ← expect_row row.Ident
   expect row.Mark (codes "(")
-  ps ← maybe_listed one_parameter (codes ")")
+  ps ← maybe_comma_list one_parameter (codes ")")
   expect row.Mark (codes ")")
   b ← body
   pure (record { returned = t; name = x; parameters = ps.0; body = b })

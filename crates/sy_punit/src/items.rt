@@ -71,7 +71,7 @@ fn equal_value(tokens: &mut Tokens<'_>, name: Lexeme) -> Result<Declarator, Stop
 fn constant_declarator(tokens: &mut Tokens<'_>) -> Result<Declarator, Stop>
     ensures { Reads (spec.constant_declarator tokens.old.rest.now) result tokens.new.rest.now }
 {
-    let name = tokens.lexed(Row::Ident)?;
+    let name = tokens.expect_row(Row::Ident)?;
     if tokens.sees(Row::Mark, b"{") {
         braced_value(tokens, name)
     } else {
@@ -112,7 +112,7 @@ fn function(tokens: &mut Tokens<'_>) -> Result<Function, Stop>
     ensures { Reads (spec.function tokens.old.rest.now) result tokens.new.rest.now }
 {
     let returned = return_type(tokens)?;
-    let name = tokens.lexed(Row::Ident)?;
+    let name = tokens.expect_row(Row::Ident)?;
     tokens.expect(Row::Mark, b"(")?;
     let (parameters, _height) = parameters(tokens)?;
     tokens.expect(Row::Mark, b")")?;

@@ -4,7 +4,7 @@ ghost use Rattle.std.specs.Prelude.{◌≡◌, ◌++◌, [], ◌∷◌, ◌<◌,
 ghost use Rattle.std.specs.List.{list_any};
 ghost use Rattle.std.specs.Str.{bytes_eq};
 ghost use Rattle.sy_tree.specs.Qualification as spec;
-ghost use Rattle.sy_punit.specs.Qualifying.{drops_std, written, type_names, value_names, function_names};
+ghost use Rattle.sy_punit.specs.Qualifying.{drops_std, with_namespace_if, type_names, value_names, function_names};
 
 use std::alloc::{AllocError, Global};
 use std::collections::VecDeque;
@@ -120,7 +120,7 @@ fn is_function_name(text: &[u8]) -> bool
     )
 }
 
-#[tactic(auto, using(crate::proofs::Kept::library_name))]
+#[tactic(auto, using(crate::proofs::KeepLemmas::library_name))]
 fn is_library_name(word: &Word) -> bool
     ensures { result ≡ spec.is_library_name word.now }
 {
@@ -157,7 +157,7 @@ fn beside(alloc: Global, token: &Token, row: Row, text: &[u8]) -> Result<Token, 
 }
 
 /// Puts a token behind the others, with its namespace before it.
-fn keep_named(alloc: Global, out: &mut Vec<Token>, token: Token) -> Result<(), AllocError>
+fn keep_with_namespace(alloc: Global, out: &mut Vec<Token>, token: Token) -> Result<(), AllocError>
     ensures { OnOk result (out.new.items ≡ out.old.items ++ spec.with_namespace token) }
 {
     let namespace = beside(alloc, &token, Row::Ident, b"sycl")?;
@@ -170,10 +170,10 @@ fn keep_named(alloc: Global, out: &mut Vec<Token>, token: Token) -> Result<(), A
 
 /// Puts a token behind the others, with its namespace before it if it is to have one.
 fn keep(alloc: Global, out: &mut Vec<Token>, token: Token, named: bool) -> Result<(), AllocError>
-    ensures { OnOk result (out.new.items ≡ out.old.items ++ written named token) }
+    ensures { OnOk result (out.new.items ≡ out.old.items ++ with_namespace_if named token) }
 {
     if named {
-        keep_named(alloc, out, token)
+        keep_with_namespace(alloc, out, token)
     } else {
         out.push(token)?;
         Ok(())
@@ -205,7 +205,7 @@ fn std_leaves(rest: &VecDeque<Token>) -> bool
 }
 
 /// Takes the next token that is kept. Where `std::` is dropped before it, it has the place of that `std`.
-fn next_kept(rest: &mut VecDeque<Token>) -> Option<Token>
+fn take_kept(rest: &mut VecDeque<Token>) -> Option<Token>
     ensures kept { MatchOption result (spec.without_std rest.old.items ≡ []) (λ t. spec.without_std rest.old.items ≡ t ∷ spec.without_std rest.new.items) }
     ensures fewer { OnSome result (length rest.new.items < length rest.old.items) }
 {
@@ -249,7 +249,7 @@ fn write_out(alloc: Global, toks: Vec<Token>) -> Result<Vec<Token>, AllocError>
     let mut rest = VecDeque::from(toks);
     let mut used = false;
     let mut selected = false;
-    while let Some(token) = next_kept(&mut rest) {
+    while let Some(token) = take_kept(&mut rest) {
         let named = gets_namespace(used, selected, &token.word);
         used = is_used(used, &token.word);
         selected = is_selector(&token.word);

@@ -6,7 +6,7 @@ ghost use Rattle.sy_cursor.specs.Reads.{Reads};
 ghost use Rattle.sy_punit.specs.Reader as spec;
 
 use sqlite_items::Items;
-use sy_cursor::{Stop, Tall, Tokens, integral, object_type};
+use sy_cursor::{Stop, Tokens, WithHeight, integral, object_type};
 use sy_lex::{Row, Token};
 use sy_tree::{ObjectType, Parameter, ReferenceType};
 
@@ -38,17 +38,17 @@ fn reference_type(tokens: &mut Tokens<'_>) -> Result<ReferenceType, Stop>
 }
 
 #[tactic(auto, unfolding(crate::specs::Reader::object_parameter))]
-fn object_parameter(tokens: &mut Tokens<'_>) -> Result<Tall<Parameter>, Stop>
+fn object_parameter(tokens: &mut Tokens<'_>) -> Result<WithHeight<Parameter>, Stop>
     ensures { Reads (spec.object_parameter tokens.old.rest.now) result tokens.new.rest.now }
 {
     let of = reference_type(tokens)?;
     tokens.expect(Row::Mark, b"&")?;
-    let name = tokens.lexed(Row::Ident)?;
+    let name = tokens.expect_row(Row::Ident)?;
     Ok((Parameter::Object(of, name), 0))
 }
 
 #[tactic(auto, unfolding(crate::specs::Reader::vector_parameter))]
-fn vector_parameter(tokens: &mut Tokens<'_>, fixed: bool) -> Result<Tall<Parameter>, Stop>
+fn vector_parameter(tokens: &mut Tokens<'_>, fixed: bool) -> Result<WithHeight<Parameter>, Stop>
     ensures { Reads (spec.vector_parameter fixed tokens.old.rest.now) result tokens.new.rest.now }
 {
     let vector = tokens.within(b"std", b"vector")?;
@@ -56,21 +56,21 @@ fn vector_parameter(tokens: &mut Tokens<'_>, fixed: bool) -> Result<Tall<Paramet
     let element = integral(tokens)?;
     tokens.expect(Row::Mark, b">")?;
     tokens.expect(Row::Mark, b"&")?;
-    let name = tokens.lexed(Row::Ident)?;
+    let name = tokens.expect_row(Row::Ident)?;
     Ok((Parameter::Vector(fixed, vector, element, name), 0))
 }
 
 #[tactic(auto, unfolding(crate::specs::Reader::integer_parameter))]
-fn integer_parameter(tokens: &mut Tokens<'_>, fixed: bool) -> Result<Tall<Parameter>, Stop>
+fn integer_parameter(tokens: &mut Tokens<'_>, fixed: bool) -> Result<WithHeight<Parameter>, Stop>
     ensures { Reads (spec.integer_parameter fixed tokens.old.rest.now) result tokens.new.rest.now }
 {
     let of = integral(tokens)?;
-    let name = tokens.lexed(Row::Ident)?;
+    let name = tokens.expect_row(Row::Ident)?;
     Ok((Parameter::Integer(fixed, of, name), 0))
 }
 
 #[tactic(auto, unfolding(crate::specs::Reader::one_parameter))]
-fn one_parameter(tokens: &mut Tokens<'_>) -> Result<Tall<Parameter>, Stop>
+fn one_parameter(tokens: &mut Tokens<'_>) -> Result<WithHeight<Parameter>, Stop>
     ensures { Reads (spec.one_parameter tokens.old.rest.now) result tokens.new.rest.now }
 {
     let fixed = tokens.eat(Row::Reserved, b"const");
@@ -83,12 +83,12 @@ fn one_parameter(tokens: &mut Tokens<'_>) -> Result<Tall<Parameter>, Stop>
     }
 }
 
-fn parameter_list(tokens: &mut Tokens<'_>) -> Result<Tall<Items<Parameter>>, Stop>
-    ensures { Reads (input.all_listed spec.one_parameter tokens.old.rest.now) result tokens.new.rest.now }
+fn parameter_list(tokens: &mut Tokens<'_>) -> Result<WithHeight<Items<Parameter>>, Stop>
+    ensures { Reads (input.comma_list spec.one_parameter tokens.old.rest.now) result tokens.new.rest.now }
 {
     let mut items = Items::new(tokens.alloc);
     let mut height = 0;
-    for _turn in 0..tokens.left() {
+    for _turn in 0..tokens.count_left() {
         let (item, tall) = one_parameter(tokens)?;
         items.push(item)?;
         height = height.max(tall);
@@ -100,9 +100,9 @@ fn parameter_list(tokens: &mut Tokens<'_>) -> Result<Tall<Items<Parameter>>, Sto
 }
 
 /// The parameters, up to the `)`.
-#[tactic(auto, unfolding(sy_reading::specs::Input::maybe_listed))]
-pub fn parameters(tokens: &mut Tokens<'_>) -> Result<Tall<Items<Parameter>>, Stop>
-    ensures { Reads (input.maybe_listed spec.one_parameter (codes ")") tokens.old.rest.now) result tokens.new.rest.now }
+#[tactic(auto, unfolding(sy_reading::specs::Input::maybe_comma_list))]
+pub fn parameters(tokens: &mut Tokens<'_>) -> Result<WithHeight<Items<Parameter>>, Stop>
+    ensures { Reads (input.maybe_comma_list spec.one_parameter (codes ")") tokens.old.rest.now) result tokens.new.rest.now }
 {
     if tokens.sees(Row::Mark, b")") {
         return Ok((Items::new(tokens.alloc), 0));

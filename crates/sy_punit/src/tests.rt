@@ -3,6 +3,7 @@
 use super::*;
 use std::test::Fail;
 use sy_lex::tokens;
+use sy_pexpr::{block, expr};
 
 /// What a text comes to.
 #[derive(Clone, Copy, PartialEq, Eq, Debug)]
@@ -406,5 +407,58 @@ fn sources(rt: HostRuntime) -> Result<(), Fail> {
     assert_eq!(rt; taken, None);
     let refused = first_wrong(rt, false, b"", &SOURCES_NOT_TAKEN, b"")?;
     assert_eq!(rt; refused, None);
+    Ok(())
+}
+
+/// The place behind what is read, or the line and the column of what doesn't fit.
+type End = Result<usize, (u32, u32)>;
+
+fn end_behind<A: Drop>(found: Result<(A, usize), FrontStop>) -> End {
+    match found {
+        Ok((_, end)) => Ok(end),
+        Err(FrontStop::Refused(refusal)) => Err((refusal.spot.line, refusal.spot.column)),
+        Err(FrontStop::Memory) => Err((0, 0)),
+    }
+}
+
+/// Expressions and blocks by themselves, from a token on.
+const PARTS: [(bool, &'static [u8], usize, End); 11] = [
+    (false, b"x = a + b * c;", 2, Ok(7)),
+    (false, b"a = b;", 0, Ok(1)),
+    (false, b"f(a,\n  b c);", 0, Err((2, 5))),
+    (false, b"a +", 0, Err((1, 4))),
+    (false, b"a;", 9, Err((1, 3))),
+    (
+        false,
+        b"(((((((((((((((((((((((((((((((((((((((((((((((((((((((((((((((1)))))))))))))))))))))))))))))))))))))))))))))))))))))))))))))));",
+        0,
+        Ok(127),
+    ),
+    (
+        false,
+        b"((((((((((((((((((((((((((((((((((((((((((((((((((((((((((((((((1))))))))))))))))))))))))))))))))))))))))))))))))))))))))))))))));",
+        0,
+        Err((1, 65)),
+    ),
+    (true, b"f() { a; }", 3, Ok(7)),
+    (true, b"{ a; ", 0, Err((1, 5))),
+    (true, b"{ if (a) { b; } c else d; }", 0, Err((1, 19))),
+    (true, b"a", 0, Err((1, 1))),
+];
+
+#[test]
+fn parts(rt: HostRuntime) -> Result<(), Fail> {
+    for (is_block, text, at, wanted) in PARTS {
+        if text.len() > 4096 {
+            return Err(Fail::new("too long"));
+        }
+        let toks = tokens(rt.alloc(), text)?;
+        let got = if is_block {
+            end_behind(block(rt.alloc(), toks.as_slice(), at))
+        } else {
+            end_behind(expr(rt.alloc(), toks.as_slice(), at))
+        };
+        assert_eq!(rt; got, wanted);
+    }
     Ok(())
 }

@@ -16,7 +16,7 @@ fn include_lines(tokens: &mut Tokens<'_>) -> Result<Items<Spot>, Stop>
     ensures { Reads (spec.include_lines tokens.old.rest.now) result tokens.new.rest.now }
 {
     let mut lines = Items::new(tokens.alloc);
-    for _turn in 0..tokens.left() {
+    for _turn in 0..tokens.count_left() {
         if !tokens.sees_row(Row::Include) {
             return Ok(lines);
         }
@@ -41,7 +41,7 @@ fn using_lines(tokens: &mut Tokens<'_>) -> Result<Items<Spot>, Stop>
     ensures { Reads (spec.using_lines tokens.old.rest.now) result tokens.new.rest.now }
 {
     let mut lines = Items::new(tokens.alloc);
-    for _turn in 0..tokens.left() {
+    for _turn in 0..tokens.count_left() {
         if !tokens.sees(Row::Reserved, b"using") {
             return Ok(lines);
         }
@@ -65,7 +65,7 @@ fn file_items(tokens: &mut Tokens<'_>) -> Result<Items<FileItem>, Stop>
     ensures { Reads (spec.file_items tokens.old.rest.now) result tokens.new.rest.now }
 {
     let mut items = Items::new(tokens.alloc);
-    for _turn in 0..tokens.left() {
+    for _turn in 0..tokens.count_left() {
         if !some_left(tokens) {
             return Ok(items);
         }

@@ -33,12 +33,12 @@ abbrev pub refuse : {A : Type 0} → Reader A
 refuse = λ ts. None
 
 -- a part of a tree, and the height of the highest node in it
-abbrev pub Tall : Type 0 → Type 0
-Tall A = A × ℕ
+abbrev pub WithHeight : Type 0 → Type 0
+WithHeight A = A × ℕ
 
 -- a node over children of at most that height, unless it is too high
-abbrev pub grown : {A : Type 0} → A → ℕ → Reader (Tall A)
-grown x h = λ ts. if nat_lt h 64 then Some ((x, h + 1), ts) else None
+abbrev pub check_height : {A : Type 0} → A → ℕ → Reader (WithHeight A)
+check_height x h = λ ts. if nat_lt h 64 then Some ((x, h + 1), ts) else None
 
 -- ---- tokens
 
@@ -80,9 +80,9 @@ advance [] = None
 advance (t ∷ ts) = Some (t.spot, ts)
 
 -- a token of that row, with its text
-unfoldable pub lexed : Row → Reader Lexeme
-lexed r [] = None
-lexed r (t ∷ ts) = if same_row t.word.row r then Some (record { spot = t.spot; text = t.word.text }, ts) else None
+unfoldable pub expect_row : Row → Reader Lexeme
+expect_row r [] = None
+expect_row r (t ∷ ts) = if same_row t.word.row r then Some (record { spot = t.spot; text = t.word.text }, ts) else None
 
 -- takes the word, if it comes next
 unfoldable pub after : Row → List ℕ → List Token → List Token
@@ -92,15 +92,15 @@ abbrev pub eat : Row → List ℕ → Reader Bool
 eat r text = λ ts. Some (sees r text ts, after r text ts)
 
 -- any name of that namespace: where the namespace stands, and the name
-unfoldable pub named : List ℕ → Reader (Spot × Lexeme)
-named space = do
+unfoldable pub expect_name : List ℕ → Reader (Spot × Lexeme)
+expect_name space = do
   s ← expect row.Ident space
   expect row.Mark (codes "::")
-  x ← lexed row.Ident
+  x ← expect_row row.Ident
   pure (s, x)
 
-abbrev pub qualified : Spot × Lexeme → Qualified
-qualified p = record { namespace = p.0; name = p.1.spot }
+abbrev pub qualified_name : Spot × Lexeme → Qualified
+qualified_name p = record { namespace = p.0; name = p.1.spot }
 
 -- that name of that namespace
 unfoldable pub within : List ℕ → List ℕ → Reader Qualified
@@ -113,16 +113,16 @@ within space text = do
 -- ---- lists
 
 -- one or more, separated by commas; the number bounds the turns
-unfoldable pub listed : {A : Type 0} → Reader (Tall A) → ℕ → List A → ℕ → Reader (Tall (List A))
-listed one zero xs h = refuse
-listed one (suc n) xs h = do
+unfoldable pub comma_list_from : {A : Type 0} → Reader (WithHeight A) → ℕ → List A → ℕ → Reader (WithHeight (List A))
+comma_list_from one zero xs h = refuse
+comma_list_from one (suc n) xs h = do
   x ← one
   more ← eat row.Mark (codes ",")
-  if more then listed one n (xs ++ x.0 ∷ []) (max h x.1) else pure (xs ++ x.0 ∷ [], max h x.1)
+  if more then comma_list_from one n (xs ++ x.0 ∷ []) (max h x.1) else pure (xs ++ x.0 ∷ [], max h x.1)
 
-abbrev pub all_listed : {A : Type 0} → Reader (Tall A) → Reader (Tall (List A))
-all_listed one = λ ts. listed one (length ts) [] 0 ts
+abbrev pub comma_list : {A : Type 0} → Reader (WithHeight A) → Reader (WithHeight (List A))
+comma_list one = λ ts. comma_list_from one (length ts) [] 0 ts
 
 -- the same or none, up to that mark, which isn't taken
-unfoldable pub maybe_listed : {A : Type 0} → Reader (Tall A) → List ℕ → Reader (Tall (List A))
-maybe_listed one close = λ ts. if sees row.Mark close ts then Some (([], 0), ts) else all_listed one ts
+unfoldable pub maybe_comma_list : {A : Type 0} → Reader (WithHeight A) → List ℕ → Reader (WithHeight (List A))
+maybe_comma_list one close = λ ts. if sees row.Mark close ts then Some (([], 0), ts) else comma_list one ts

@@ -4,17 +4,17 @@ use Rattle.sy_lex.specs.declared.Token.{Token}
 use Rattle.sy_tree.specs.declared.tree.Block.{Block}
 use Rattle.sy_tree.specs.declared.tree.Expr.{Expr}
 use Rattle.sy_tree.specs.Units.{IsExpression, IsBlock, ends}
-use Rattle.sy_reading.specs.Input.{Tall}
+use Rattle.sy_reading.specs.Input.{WithHeight}
 use Rattle.sy_reading.specs.Reading.{read_expr, read_block}
 
 -- An expression that is read from a place on, up to what ends it, is one of the grammar.
 abbrev pub ReadExprsAreRuns : Type 0
-ReadExprsAreRuns = (tokens : List Token) (at : ℕ) (x : Tall Expr) (rest : List Token) → at ≤ length tokens →
+ReadExprsAreRuns = (tokens : List Token) (at : ℕ) (x : WithHeight Expr) (rest : List Token) → at ≤ length tokens →
     read_expr 64 1 (drop at tokens) ≡ Some (x, rest) → ends rest ≡ true → IsExpression tokens at x.0 (length tokens - length rest)
 
 -- A block that is read from a place on is one of the grammar.
 abbrev pub ReadBlocksAreBlocks : Type 0
-ReadBlocksAreBlocks = (tokens : List Token) (at : ℕ) (b : Tall Block) (rest : List Token) → at ≤ length tokens →
+ReadBlocksAreBlocks = (tokens : List Token) (at : ℕ) (b : WithHeight Block) (rest : List Token) → at ≤ length tokens →
     read_block 64 (drop at tokens) ≡ Some (b, rest) → IsBlock tokens at b.0 (length tokens - length rest)
 
 -- Each run of tokens that is an expression of the grammar is what is read there, up to its end.

@@ -26,14 +26,14 @@ use Rattle.sy_tree.specs.declared.parts.TemplateArgument.TheVariants as template
 use Rattle.sy_tree.specs.declared.parts.TypeSpecifier.{TypeSpecifier}
 use Rattle.sy_tree.specs.declared.parts.TypeSpecifier.TheVariants as specifier
 use Rattle.sy_tree.specs.Words.{takes_template_argument}
-use Rattle.sy_reading.specs.Input.{Reader, Tall, ◌>>=◌, ◌>>◌, pure, refuse, sees, sees_row, sees_namespace, expect, lexed, eat, named, within, qualified, maybe_listed}
+use Rattle.sy_reading.specs.Input.{Reader, WithHeight, ◌>>=◌, ◌>>◌, pure, refuse, sees, sees_row, sees_namespace, expect, expect_row, eat, expect_name, within, qualified_name, maybe_comma_list}
 use Rattle.sy_reading.specs.Tables.{one_word_of, plain_object_of}
 
 -- ---- brackets
 
 -- "(" | "{"
-unfoldable pub opened : Reader (Brackets × Spot)
-opened = λ ts. if sees row.Mark (codes "(") ts then (do s ← expect row.Mark (codes "("); pure (brackets.Parentheses, s)) ts
+unfoldable pub expect_open : Reader (Brackets × Spot)
+expect_open = λ ts. if sees row.Mark (codes "(") ts then (do s ← expect row.Mark (codes "("); pure (brackets.Parentheses, s)) ts
     else (do s ← expect row.Mark (codes "{"); pure (brackets.Braces, s)) ts
 
 abbrev pub closing_text : Brackets → List ℕ
@@ -41,14 +41,14 @@ closing_text brackets.Parentheses = codes ")"
 closing_text brackets.Braces = codes "}"
 
 -- the bracket that closes
-unfoldable pub closed : Brackets → Reader Spot
-closed b = expect row.Mark (closing_text b)
+unfoldable pub expect_close : Brackets → Reader Spot
+expect_close b = expect row.Mark (closing_text b)
 
 -- "{" "}" | "(" ")"
 unfoldable pub empty_brackets : Reader (Brackets × Spot)
 empty_brackets = do
-  b ← opened
-  e ← closed b.0
+  b ← expect_open
+  e ← expect_close b.0
   pure (b.0, e)
 
 -- ---- integer types
@@ -92,14 +92,14 @@ kind_by text = if bytes_eq text (codes "signed") then signed_kind
 -- ktype
 unfoldable pub integral : Reader IntegerType
 integral = do
-  x ← lexed row.Reserved
+  x ← expect_row row.Reserved
   k ← kind_by x.text
   pure (record { spot = x.spot; kind = k })
 
 -- a ktype of one token
 unfoldable pub one_word : Reader IntegerType
 one_word = do
-  x ← lexed row.Reserved
+  x ← expect_row row.Reserved
   k ← word_kind (one_word_of x.text)
   pure (record { spot = x.spot; kind = k })
 
@@ -128,7 +128,7 @@ const_specifier = λ ts. if sees row.Reserved (codes "const") ts then (do s ← 
 unfoldable pub dimensions : Reader Lexeme
 dimensions = do
   expect row.Mark (codes "<")
-  x ← lexed row.Int
+  x ← expect_row row.Int
   expect row.Mark (codes ">")
   pure x
 
@@ -139,7 +139,7 @@ maybe_dimensions = λ ts. if sees row.Mark (codes "<") ts then (do x ← dimensi
 unfoldable pub comma_dimensions : Reader (Option Lexeme)
 comma_dimensions = do
   more ← eat row.Mark (codes ",")
-  if more then (do x ← lexed row.Int; pure (Some x)) else pure None
+  if more then (do x ← expect_row row.Int; pure (Some x)) else pure None
 
 -- "<" ktype ("," INT)? ">"
 unfoldable pub elements : Reader ElementArguments
@@ -172,8 +172,8 @@ object_by q text = object_or q text (plain_object_of q text)
 -- otype
 unfoldable pub object_type : Reader ObjectType
 object_type = do
-  p ← named (codes "sycl")
-  object_by (qualified p) p.1.text
+  p ← expect_name (codes "sycl")
+  object_by (qualified_name p) p.1.text
 
 abbrev pub then_name : Option (ObjectType × List Token) → Bool
 then_name None = false
@@ -186,16 +186,16 @@ declares_object ts = then_name (object_type ts)
 -- ---- lambdas
 
 -- "&" IDENT | "&"
-unfoldable pub reference_capture : Reader (Tall Capture)
+unfoldable pub reference_capture : Reader (WithHeight Capture)
 reference_capture = do
   s ← expect row.Mark (codes "&")
-  λ ts. if sees_row row.Ident ts then (do x ← lexed row.Ident; pure (capture.Reference s x, 0)) ts else Some ((capture.DefaultReference s, 0), ts)
+  λ ts. if sees_row row.Ident ts then (do x ← expect_row row.Ident; pure (capture.Reference s x, 0)) ts else Some ((capture.DefaultReference s, 0), ts)
 
 -- cap
-unfoldable pub one_capture : Reader (Tall Capture)
+unfoldable pub one_capture : Reader (WithHeight Capture)
 one_capture = λ ts. if sees row.Mark (codes "&") ts then reference_capture ts
     else (if sees row.Mark (codes "=") ts then (do s ← expect row.Mark (codes "="); pure (capture.DefaultCopy s, 0)) ts
-    else (do x ← lexed row.Ident; pure (capture.Copy x, 0)) ts)
+    else (do x ← expect_row row.Ident; pure (capture.Copy x, 0)) ts)
 
 -- a parameter's type, after its name
 unfoldable pub parameter_by : Qualified → List ℕ → Reader LambdaParameterType
@@ -206,21 +206,21 @@ parameter_by q text = if bytes_eq text (codes "handler") then pure (parameter.Ha
 
 unfoldable pub parameter_type : Reader LambdaParameterType
 parameter_type = λ ts. if sees row.Reserved (codes "auto") ts then (do s ← expect row.Reserved (codes "auto"); pure (parameter.Auto s)) ts
-    else (do p ← named (codes "sycl"); parameter_by (qualified p) p.1.text) ts
+    else (do p ← expect_name (codes "sycl"); parameter_by (qualified_name p) p.1.text) ts
 
 -- lparam
-unfoldable pub one_parameter : Reader (Tall LambdaParameter)
+unfoldable pub one_parameter : Reader (WithHeight LambdaParameter)
 one_parameter = do
   t ← parameter_type
   r ← eat row.Mark (codes "&")
-  x ← lexed row.Ident
+  x ← expect_row row.Ident
   pure (record { of = t; by_reference = r; name = x }, 0)
 
 -- ("(" list(lparam)? ")")?
 unfoldable pub maybe_parameters : Reader (Option (List LambdaParameter))
 maybe_parameters = do
   some ← eat row.Mark (codes "(")
-  if some then (do ps ← maybe_listed one_parameter (codes ")"); expect row.Mark (codes ")"); pure (Some ps.0)) else pure None
+  if some then (do ps ← maybe_comma_list one_parameter (codes ")"); expect row.Mark (codes ")"); pure (Some ps.0)) else pure None
 
 -- ---- template arguments of members
 
@@ -228,7 +228,7 @@ maybe_parameters = do
 unfoldable pub kernel_name : Reader TemplateArgument
 kernel_name = do
   c ← eat row.Reserved (codes "class")
-  x ← lexed row.Ident
+  x ← expect_row row.Ident
   pure (template.Kernel c x)
 
 -- T(info) "::" IDENT "::" IDENT
@@ -236,9 +236,9 @@ unfoldable pub information : Reader TemplateArgument
 information = do
   q ← within (codes "sycl") (codes "info")
   expect row.Mark (codes "::")
-  x ← lexed row.Ident
+  x ← expect_row row.Ident
   expect row.Mark (codes "::")
-  y ← lexed row.Ident
+  y ← expect_row row.Ident
   pure (template.Information q x y)
 
 -- "<" .. ">", after a member that takes it

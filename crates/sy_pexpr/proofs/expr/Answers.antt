@@ -1,6 +1,6 @@
 use Rattle.std.proofs.Common.{◌≡◌, ◌-◌, length, drop, sym, ap, ◌∙◌, arith}
 use Rattle.sy_tree.specs.Units.{IsExpression}
-use Rattle.sy_pexpr.proofs.Refusals.{refused_by, not_memory}
+use Rattle.sy_pexpr.proofs.RefusalLemmas.{refused_by, not_memory}
 use Rattle.sy_pexpr.proofs.RunLaws.{past_runs, found_from, none_from, unended_from, only_run}
 use Rattle.sy_pexpr.proofs.expr.Goals as goal
 use Rattle.sy_pexpr.proofs.expr.Goals.{After-saturating_sub}
@@ -8,7 +8,7 @@ use Rattle.sy_pexpr.proofs.expr.Goals.{After-saturating_sub}
 is_run : (c : After-saturating_sub) → IsExpression c.args.toks.now c.args.at c.in-Ok.tree c.saturating_sub.result
 is_run c =
     let rest : c.new-tokens.result.rest.now ≡ drop c.args.at c.args.toks.now = c.new-tokens.ensures ∙ c.split_at.ensures.back in
-    let end : c.saturating_sub.result ≡ length c.args.toks.now - length c.read_expr.new.tokens.rest.now = c.saturating_sub.ensures ∙ ap (λ k. length c.args.toks.now - k) c.left.ensures in
+    let end : c.saturating_sub.result ≡ length c.args.toks.now - length c.read_expr.new.tokens.rest.now = c.saturating_sub.ensures ∙ ap (λ k. length c.args.toks.now - k) c.count_left.ensures in
     found_from c.args.toks.now c.args.at c.new-tokens.result.rest.now rest (c.in-Ok.tree, c.in-Ok._height) c.read_expr.new.tokens.rest.now c.saturating_sub.result (omega arith)
     c.in-Ok.ensures (sym c.ends.ensures ∙ c.if-ends.true) end
 

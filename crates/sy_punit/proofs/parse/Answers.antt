@@ -1,5 +1,5 @@
 use Rattle.std.proofs.Common.{◌∙◌}
-use Rattle.sy_punit.proofs.Parsed.{unit_found, only_unit, no_unit, code_kept, no_memory}
+use Rattle.sy_punit.proofs.ParseLaws.{unit_found, only_unit, no_unit, code_kept, no_memory}
 use Rattle.sy_punit.proofs.parse.Goals as goal
 
 pub returns-in-Ok-read_unit-clause-found : goal.returns-in-Ok-read_unit-clause-found

@@ -1,4 +1,4 @@
-use Rattle.sy_reading.proofs.OneTree.{one_expr, one_block}
+use Rattle.sy_reading.proofs.OneTreeLaws.{one_expr, one_block}
 use Rattle.sy_reading.proofs.there_is_one_tree_at_most.Goals as goal
 
 pub returns-clause-expressions : goal.returns-clause-expressions

@@ -1,4 +1,4 @@
-use Rattle.sy_reading.proofs.Runs.{runs_are_read, blocks_are_read}
+use Rattle.sy_reading.proofs.RunLaws.{runs_are_read, blocks_are_read}
 use Rattle.sy_reading.proofs.what_is_in_the_grammar_is_read.Goals as goal
 
 pub returns-clause-expressions : goal.returns-clause-expressions

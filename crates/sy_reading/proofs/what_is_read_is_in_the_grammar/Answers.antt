@@ -1,4 +1,4 @@
-use Rattle.sy_reading.proofs.Answer.{expr_found, block_found}
+use Rattle.sy_reading.proofs.AnswerLaws.{expr_found, block_found}
 use Rattle.sy_reading.proofs.what_is_read_is_in_the_grammar.Goals as goal
 
 pub returns-clause-expressions : goal.returns-clause-expressions

@@ -1,6 +1,6 @@
 use Rattle.std.proofs.Common.{◌≡◌, arith}
 use Rattle.sy_reading.specs.Reading.{readers, read_expr, read_stmt}
-use Rattle.sy_cursor.proofs.Turns.{deeper}
+use Rattle.sy_cursor.proofs.TurnLemmas.{deeper}
 use Rattle.sy_pexpr.proofs.recursion.+parser.Goals as goal
 
 pub read_expr-returns : goal.read_expr-returns

@@ -1,7 +1,7 @@
 use Rattle.std.proofs.Common.{◌≡◌, ◌-◌, []}
-use Rattle.sy_reading.specs.Input.{listed}
+use Rattle.sy_reading.specs.Input.{comma_list_from}
 use Rattle.sy_punit.specs.Reader.{one_parameter}
 use Rattle.sy_punit.proofs.parameters.parameter_list.Given as goal
 
 abbrev pub invariant-loop-turn : goal.invariant-loop-turn
-invariant-loop-turn l = listed one_parameter l._turn-end [] 0 l.fn.tokens.rest.now ≡ listed one_parameter (l._turn-end - l._turn) l.items l.height l.tokens.rest.now
+invariant-loop-turn l = comma_list_from one_parameter l._turn-end [] 0 l.fn.tokens.rest.now ≡ comma_list_from one_parameter (l._turn-end - l._turn) l.items l.height l.tokens.rest.now

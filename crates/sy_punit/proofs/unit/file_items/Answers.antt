@@ -1,7 +1,7 @@
 use Rattle.std.proofs.Common.{rules, arith}
 use Rattle.std.proofs.lemmas.Grind.{common_steps}
 use Rattle.sy_punit.specs.Reader.{each, some_left, file_item}
-use Rattle.sy_cursor.proofs.Turns.{one_more, no_more}
+use Rattle.sy_cursor.proofs.TurnLemmas.{one_more, no_more}
 use Rattle.sy_punit.proofs.unit.file_items.Goals as goal
 
 pub returns-then-not-some_left : goal.returns-then-not-some_left

@@ -3,7 +3,7 @@ use Rattle.std.proofs.lemmas.Grind.{common_steps}
 use Rattle.sy_lex.specs.declared.Row.TheVariants as row
 use Rattle.sy_reading.specs.Input.{sees_row, advance}
 use Rattle.sy_punit.specs.Reader.{each}
-use Rattle.sy_cursor.proofs.Turns.{one_more, no_more}
+use Rattle.sy_cursor.proofs.TurnLemmas.{one_more, no_more}
 use Rattle.sy_punit.proofs.unit.include_lines.Goals as goal
 
 pub returns-then-not-sees_row : goal.returns-then-not-sees_row

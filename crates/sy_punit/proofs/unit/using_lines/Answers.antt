@@ -3,7 +3,7 @@ use Rattle.std.proofs.lemmas.Grind.{common_steps}
 use Rattle.sy_lex.specs.declared.Row.TheVariants as row
 use Rattle.sy_reading.specs.Input.{sees}
 use Rattle.sy_punit.specs.Reader.{each, using_line}
-use Rattle.sy_cursor.proofs.Turns.{one_more, no_more}
+use Rattle.sy_cursor.proofs.TurnLemmas.{one_more, no_more}
 use Rattle.sy_punit.proofs.unit.using_lines.Goals as goal
 
 pub returns-then-not-sees : goal.returns-then-not-sees

@@ -29,4 +29,4 @@ returns-in_err-init-6 g c = err_exit _ _ _ _ c.from_residual-in_err-init-6.ensur
 
 pub returns : goal.returns
 unfolding plain_for
-returns g c = rw (c.in_ok-init.ensures, reads_ok c.maybe_expr.ensures c.in_ok-init-2.ensures.ok.1, reads_ok c.expect.ensures c.in_ok-init-3.ensures.ok.1, reads_ok c.maybe_full.ensures c.in_ok-init-4.ensures.ok.1, reads_ok c.expect-2.ensures c.in_ok-init-5.ensures.ok.1, reads_ok c.body.ensures c.in_ok-init-6.ensures.ok.1, ← c.in_ok-init-2.ensures.ok.0, ← ap (λ p. p.0) c.in_ok-init-3.ensures.ok.0, ← ap (λ p. p.1) c.in_ok-init-3.ensures.ok.0, ← ap (λ p. p.0) c.in_ok-init-4.ensures.ok.0, ← ap (λ p. p.1) c.in_ok-init-4.ensures.ok.0, ← ap (λ p. p.0) c.in_ok-init-5.ensures.ok.0, ← ap (λ p. p.1) c.in_ok-init-5.ensures.ok.0, ← ap (λ p. p.2) c.in_ok-init-5.ensures.ok.0, ← ap (λ p. p.0) c.in_ok-init-6.ensures.ok.0, ← ap (λ p. p.1) c.in_ok-init-6.ensures.ok.0, ← ap (λ p. p.2) c.in_ok-init-6.ensures.ok.0, ← c.max.ensures, ← c.max-2.ensures, ← c.max-height.ensures) c.node.ensures
+returns g c = rw (c.in_ok-init.ensures, reads_ok c.maybe_expr.ensures c.in_ok-init-2.ensures.ok.1, reads_ok c.expect.ensures c.in_ok-init-3.ensures.ok.1, reads_ok c.maybe_full.ensures c.in_ok-init-4.ensures.ok.1, reads_ok c.expect-2.ensures c.in_ok-init-5.ensures.ok.1, reads_ok c.body.ensures c.in_ok-init-6.ensures.ok.1, ← c.in_ok-init-2.ensures.ok.0, ← ap (λ p. p.0) c.in_ok-init-3.ensures.ok.0, ← ap (λ p. p.1) c.in_ok-init-3.ensures.ok.0, ← ap (λ p. p.0) c.in_ok-init-4.ensures.ok.0, ← ap (λ p. p.1) c.in_ok-init-4.ensures.ok.0, ← ap (λ p. p.0) c.in_ok-init-5.ensures.ok.0, ← ap (λ p. p.1) c.in_ok-init-5.ensures.ok.0, ← ap (λ p. p.2) c.in_ok-init-5.ensures.ok.0, ← ap (λ p. p.0) c.in_ok-init-6.ensures.ok.0, ← ap (λ p. p.1) c.in_ok-init-6.ensures.ok.0, ← ap (λ p. p.2) c.in_ok-init-6.ensures.ok.0, ← c.max.ensures, ← c.max-2.ensures, ← c.max-height.ensures) c.stmt_node.ensures

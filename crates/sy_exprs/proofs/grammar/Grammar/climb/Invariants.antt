@@ -1,7 +1,0 @@
-use Rattle.std.proofs.Common.{◌≡◌, ◌-◌}
-use Rattle.sy_reading.specs.Exprs.{climb}
-use Rattle.sy_reading.specs.Reading.{read_expr, read_stmt}
-use Rattle.sy_exprs.proofs.grammar.Grammar.climb.Given as goal
-
-abbrev pub invariant-loop-turn : goal.invariant-loop-turn
-invariant-loop-turn g l = climb (read_expr l.self.depth) (read_stmt l.self.depth) 65 l.least l.fn.left l.fn.tokens.rest.now ≡ climb (read_expr l.self.depth) (read_stmt l.self.depth) (65 - l._turn) l.least l.left l.tokens.rest.now
