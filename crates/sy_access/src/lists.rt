@@ -1,6 +1,6 @@
 // The small lists of plain data that requests and answers are made of.
 
-ghost use Rattle.std.specs.Prelude.{◌≡◌, ◌++◌, IfOk, OnOk, OnErr};
+ghost use Rattle.std.specs.Prelude.{◌≡◌, ◌++◌, length, slice_get, IfOk, OnOk, OnErr};
 
 use std::alloc::{AllocError, Global};
 use std::marker::Model;
@@ -30,6 +30,21 @@ impl Values {
         ensures { result.now ≡ self.now }
     {
         self.items.as_slice()
+    }
+
+    /// How many numbers it has.
+    pub fn len(&self) -> usize
+        ensures { result ≡ length self.now }
+    {
+        self.items.len()
+    }
+
+    /// The number at an index, if there is one.
+    #[inline]
+    pub fn get(&self, index: usize) -> Option<i128>
+        ensures { result ≡ slice_get self.now index }
+    {
+        self.items.get(index).copied()
     }
 
     /// The vector that it was made of, which takes no memory.

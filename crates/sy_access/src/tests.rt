@@ -151,6 +151,10 @@ fn lists_hold_their_items(rt: HostRuntime) -> Result<(), Fail> {
     let alloc = rt.alloc();
     let values = Values::of([5, -7].to_vec(alloc)?);
     assert_eq!(rt; values.copy(alloc)?.items(), [5, -7].as_slice());
+    assert_eq!(rt;
+        (values.len(), values.get(1), values.get(2)),
+        (2, Some(-7), None)
+    );
     assert_eq!(rt; values.into_items().as_slice(), [5, -7].as_slice());
     let numbers = Numbers::of([3, 1].to_vec(alloc)?);
     assert_eq!(rt; numbers.copy(alloc)?.items(), [3, 1].as_slice());

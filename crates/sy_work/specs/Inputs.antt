@@ -8,6 +8,11 @@ use Rattle.sy_work.specs.declared.commands.Command.TheVariants.{Single, Plain, N
 abbrev pub number_in : Input → ℕ → ℕ → Option ℤ
 number_in x root e = if x.0 == root && nat_le x.1 e then slice_get x.2 (e - x.1) else None
 
+-- the number at an index of an input's list
+abbrev pub number_at_index : Option Input → ℕ → Option ℤ
+number_at_index None index = None
+number_at_index (Some x) index = slice_get x.2 index
+
 -- two inputs aren't of the same elements
 abbrev pub Differ : Input → Input → Type 0
 Differ x y = x.0 ≡ y.0 → x.1 ≡ y.1 → length x.2 ≢ length y.2

@@ -98,6 +98,9 @@ impl Model for Inputs {
 }
 
 impl Inputs {
+    ghost use Rattle.std.specs.Prelude.{length, slice_get};
+    ghost use Rattle.sy_work.specs.Inputs.{number_at_index};
+
     pub fn of(items: Vec<(u32, u32, Values)>) -> Inputs
         ensures { result ≡ items.items }
     {
@@ -108,6 +111,24 @@ impl Inputs {
         ensures { result.now ≡ self.now }
     {
         self.items.as_slice()
+    }
+
+    /// How many lists there are.
+    pub fn len(&self) -> usize
+        ensures { result ≡ length self.now }
+    {
+        self.items.len()
+    }
+
+    /// The number at an index of the k-th list, if there is one.
+    #[inline]
+    pub fn get(&self, k: usize, index: usize) -> Option<i128>
+        ensures { result ≡ number_at_index (slice_get self.now k) index }
+    {
+        match self.items.get(k) {
+            Some((_root, _from, values)) => values.get(index),
+            None => None,
+        }
     }
 }
 

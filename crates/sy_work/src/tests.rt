@@ -59,6 +59,10 @@ fn moves_write_their_target(rt: HostRuntime) -> Result<(), Fail> {
 fn inputs_hold_their_lists(rt: HostRuntime) -> Result<(), Fail> {
     let alloc = rt.alloc();
     let inputs = Inputs::of(vec![in alloc; input(alloc, 1, 2, &[3])?]?);
+    assert_eq!(rt;
+        (inputs.len(), inputs.get(0, 0), inputs.get(1, 0)),
+        (1, Some(3), None)
+    );
     assert_eq!(rt; inputs.items().len(), 1);
     for (root, from, values) in inputs.items() {
         assert_eq!(rt; (*root, *from), (1, 2));
