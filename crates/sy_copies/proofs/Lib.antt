@@ -6,3 +6,4 @@ pub mod CallLemmas
 pub mod AgreementLemmas
 pub mod RootLemmas
 pub mod ConditionLemmas
+pub mod RunLemmas

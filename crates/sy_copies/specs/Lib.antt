@@ -4,3 +4,4 @@ pub mod Slots
 pub mod Places
 pub mod Current
 pub mod Calls
+pub mod Written

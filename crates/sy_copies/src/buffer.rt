@@ -7,8 +7,9 @@ ghost use Rattle.sy_copies.specs.Places.{copy_in, first, installed, reserved, pu
 
 use crate::needs::replaces;
 use crate::slots::{Slot, Slots};
+use crate::written::Written;
 use std::alloc::{AllocError, Global};
-use sy_access::{Log, Need, Values};
+use sy_access::{Need, Values};
 
 /// A buffer that was made and not dropped.
 ///
@@ -92,7 +93,7 @@ impl Buffer {
     }
 
     /// Makes the version that a command with these needs and this log leaves at the place.
-    pub fn publish(&mut self, alloc: Global, place: u32, root: u32, needs: &[Need], log: &Log)
+    pub fn publish(&mut self, alloc: Global, place: u32, root: u32, needs: &[Need], log: &Written)
         ensures { self.new ≡ published place needs.now log.now root self.old }
     {
         let replaced = replaces(needs, root, self.len);
@@ -139,7 +140,7 @@ pub fn publish_in(
     place: u32,
     root: u32,
     needs: &[Need],
-    log: &Log,
+    log: &Written,
 )
     ensures { entry.new ≡ option_map (published place needs.now log.now root) entry.old }
 {

@@ -1,16 +1,18 @@
 // The elements of one root as a command with these needs and this log leaves them.
 
-ghost use Rattle.std.specs.Prelude.{◌≡◌, ℤ, length};
+ghost use Rattle.std.specs.Prelude.{◌≡◌, ℤ, ◌+◌, ◌<◌, ◌^◌, length};
 ghost use Rattle.sy_access.specs.declared.cells.Cell.{Cell};
 ghost use Rattle.sy_needs.specs.Each.{each_from};
+ghost use Rattle.sy_work.specs.Moves.{writes_from};
 ghost use Rattle.sy_copies.specs.Commands.{cells_after, start_of};
 ghost use Rattle.sy_copies.specs.Parts.{zero_in, clear_in, clear_at, put_at, put_all_at};
 
 use crate::needs::{is_written, keeps};
+use crate::written::{Kind, Written};
 use sy_access::{Cell, Log, Need};
 
 /// The elements as the command leaves them, from those at its place, or from zeros.
-pub fn renew(cells: &mut [i128], from_zeros: bool, root: u32, needs: &[Need], log: &Log)
+pub fn renew(cells: &mut [i128], from_zeros: bool, root: u32, needs: &[Need], log: &Written)
     ensures { cells.new ≡ cells_after needs.now log.now root (start_of from_zeros (length cells.old) cells.old) }
 {
     if from_zeros {
@@ -18,7 +20,7 @@ pub fn renew(cells: &mut [i128], from_zeros: bool, root: u32, needs: &[Need], lo
     } else {
         clear_unwanted(cells, root, needs);
     }
-    put_log(cells, root, needs, log);
+    put_written(cells, root, needs, log);
 }
 
 /// Sets the elements from `from` up to `to` to zero.
@@ -60,6 +62,32 @@ fn clear_unwanted(cells: &mut [i128], root: u32, needs: &[Need])
         if need.buffer == root && need.mode.writes() {
             clear_run(cells, root, need.from as usize, need.to as usize, needs);
         }
+    }
+}
+
+/// Puts in what is written to elements that a writing need has.
+fn put_written(cells: &mut [i128], root: u32, needs: &[Need], log: &Written)
+    ensures { cells.new ≡ each_from (put_all_at needs.now log.now root) 0 cells.old }
+{
+    match log.kind {
+        Kind::Log(log) => put_log(cells, root, needs, log),
+        Kind::Run(of, from, values) => put_run(cells, root, needs, of, from, values),
+    }
+}
+
+/// Puts in the numbers of a run of the root `of`, as far as a writing need has its elements.
+fn put_run(cells: &mut [i128], root: u32, needs: &[Need], of: u32, from: u32, values: &[i128])
+    requires { from + length values.now < 2 ^ 32 }
+    ensures { cells.new ≡ each_from (put_all_at needs.now (writes_from of from values.now) root) 0 cells.old }
+{
+    for (k, number) in values.iter().enumerate() {
+        put(
+            cells,
+            root,
+            needs,
+            &Cell::Buffer(of, from + k as u32),
+            *number,
+        );
     }
 }
 

@@ -1,12 +1,14 @@
 // The copies of all buffers of a run.
 
-ghost use Rattle.std.specs.Prelude.{◌≡◌, ◌-◌, ◌^◌, ◌<◌, ℕ, [], List, ℤ, length, Some, None, IsTrue, IfSome, IfOk, IfErr, OnOk, OnErr, IsOk, IsSome, MatchOption};
+ghost use Rattle.std.specs.Prelude.{◌≡◌, ◌+◌, ◌-◌, ◌^◌, ◌<◌, ℕ, [], ◌∷◌, List, ℤ, length, Some, None, IsTrue, IfSome, IfOk, IfErr, OnOk, OnErr, IsOk, IsSome, MatchOption};
 ghost use Rattle.sy_needs.specs.Each.{each_from};
+ghost use Rattle.sy_work.specs.Moves.{writes_from};
 ghost use Rattle.sy_copies.specs.Current.{copy_at, len_at, has_room, Agree, publish_at, publish_one};
 ghost use Rattle.sy_copies.specs.Calls.{Makes, Installs, Reserves, MayPublish, Publishes, Drops};
 
 use crate::buffer::{Buffer, drop_in, install_in, publish_in, reserve_in};
 use crate::needs::renews;
+use crate::written::Written;
 use std::alloc::{AllocError, Global};
 use std::marker::Model;
 use sy_access::{Log, Need, Needs, Values};
@@ -98,7 +100,26 @@ impl Copies {
             alloc,
             place,
             needs.items(),
-            log,
+            &Written::by_log(log),
+        );
+    }
+
+    /// Puts the numbers of a host access of this need back, as `publish` does for a command whose log
+    /// names each element of the need with its number. It takes no memory.
+    pub fn put_back(&mut self, place: u32, need: &Need, values: &[i128])
+        requires may { MayPublish self.old place (need.now ∷ []) }
+        requires count { need.now.from + length values.now ≡ need.now.to }
+        ensures put { Publishes self.old self.new place (need.now ∷ []) (writes_from need.now.buffer need.now.from values.now) }
+        ensures agree { Agree self.old → Agree self.new }
+    {
+        let alloc = self.alloc;
+        let needs = [*need];
+        publish_all(
+            self.buffers.as_mut_slice(),
+            alloc,
+            place,
+            &needs,
+            &Written::by_run(need.buffer, need.from, need.to, values),
         );
     }
 
@@ -129,7 +150,13 @@ impl Copies {
 }
 
 /// Publishes each root on which a need writes, once.
-fn publish_all(buffers: &mut [Option<Buffer>], alloc: Global, place: u32, needs: &[Need], log: &Log)
+fn publish_all(
+    buffers: &mut [Option<Buffer>],
+    alloc: Global,
+    place: u32,
+    needs: &[Need],
+    log: &Written,
+)
     ensures { buffers.new ≡ each_from (publish_at place needs.now log.now needs.now) 0 buffers.old }
 {
     for k in 0..needs.len() {
@@ -147,7 +174,7 @@ fn publish_root(
     place: u32,
     root: u32,
     needs: &[Need],
-    log: &Log,
+    log: &Written,
 )
     ensures { buffers.new ≡ each_from (publish_one place needs.now log.now root) 0 buffers.old }
 {

@@ -11,6 +11,7 @@ mod cells;
 mod copies;
 mod needs;
 mod slots;
+mod written;
 
 pub use copies::Copies;
 

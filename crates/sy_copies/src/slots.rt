@@ -4,10 +4,11 @@ ghost use Rattle.std.specs.Prelude.{◌≡◌, ℕ, ◌<◌, [], length, map, fa
 ghost use Rattle.sy_copies.specs.Slots.{slot_at, has_slot, with_slot, IsSlotOf, renewed_slot, slot_after};
 
 use crate::cells::renew;
+use crate::written::Written;
 use std::alloc::Global;
 use std::marker::Model;
 use std::mem;
-use sy_access::{Log, Need, Values};
+use sy_access::{Need, Values};
 
 /// The cells that a place has of its own, and whether they have the buffer's current numbers.
 #[derive(Drop)]
@@ -20,7 +21,7 @@ pub struct Slot {
 impl Slot {
     /// Makes the numbers those that a command with these needs and this log leaves of the root; with
     /// `replaced` it has no use for the former ones.
-    fn renew(&mut self, alloc: Global, replaced: bool, root: u32, needs: &[Need], log: &Log)
+    fn renew(&mut self, alloc: Global, replaced: bool, root: u32, needs: &[Need], log: &Written)
         ensures { self.new ≡ renewed_slot replaced needs.now log.now root self.old }
     {
         let from_zeros = replaced || !self.current;
@@ -118,7 +119,7 @@ impl Slots {
         replaced: bool,
         root: u32,
         needs: &[Need],
-        log: &Log,
+        log: &Written,
     )
         ensures { self.new ≡ map (slot_after place replaced needs.now log.now root) self.old }
     {
@@ -142,7 +143,7 @@ fn publish_all(
     replaced: bool,
     root: u32,
     needs: &[Need],
-    log: &Log,
+    log: &Written,
 )
     ensures { slots.new ≡ map (slot_after place replaced needs.now log.now root) slots.old }
 {

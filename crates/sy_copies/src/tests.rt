@@ -216,3 +216,25 @@ fn a_buffer_with_numbers(rt: HostRuntime) -> Result<(), Fail> {
     assert!(rt; copies.view(HOST, b).is_none() && copies.view(FIRST, b).is_none());
     Ok(())
 }
+
+#[test]
+fn a_host_access_puts_its_numbers_back(rt: HostRuntime) -> Result<(), Fail> {
+    let alloc = rt.alloc();
+    let mut copies = Copies::new(alloc);
+    let b = copies.make(4, Some(Values::of([5, 6, 7, 8].to_vec(alloc)?)))?;
+    carry(alloc, &mut copies, HOST, FIRST, b)?;
+    let need = Need {
+        buffer: b,
+        mode: Mode::ReadWrite,
+        no_init: false,
+        from: 1,
+        to: 3,
+    };
+    if !copies.may_publish(HOST, &[need]) {
+        return Err(Fail::from("not current"));
+    }
+    copies.put_back(HOST, &need, &[1, 2]);
+    assert!(rt; shows(&copies, HOST, b, &[5, 1, 2, 8]));
+    assert!(rt; copies.view(FIRST, b).is_none());
+    Ok(())
+}

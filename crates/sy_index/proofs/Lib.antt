@@ -4,3 +4,4 @@ pub mod SlotLemmas
 pub mod CoverLemmas
 pub mod EdgeLemmas
 pub mod IndexLemmas
+mod SuccessorLemmas

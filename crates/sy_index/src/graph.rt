@@ -1,7 +1,7 @@
 // The graph by index, which is seen as the plain list of nodes.
 
-ghost use Rattle.std.specs.Prelude.{◌≡◌, ◌≢◌, ◌⊎◌, ◌-◌, ◌^◌, ◌<◌, [], ◌∷◌, ◌++◌, ℕ, Bool, true, length, IsTrue, IfOk, IfErr, OnOk, OnErr, All, Some, None, slice_get, slice_set};
-ghost use Rattle.std.specs.List.{filter};
+ghost use Rattle.std.specs.Prelude.{◌≡◌, ◌≢◌, ◌⊎◌, ◌-◌, ◌^◌, ◌<◌, [], ◌∷◌, ◌++◌, ℕ, Bool, true, length, IsTrue, IfOk, IfErr, OnOk, OnErr, All, Some, None, slice_get, slice_set, option_copied, unwrap_or};
+ghost use Rattle.std.specs.List.{filter, Contains};
 ghost use Rattle.sy_access.specs.declared.access.Need.{Need};
 ghost use Rattle.sy_access.specs.Needs.{writes};
 ghost use Rattle.sy_graph.specs.Before.{is_ready};
@@ -97,18 +97,28 @@ impl Graph {
         self.slots.is_idle(n)
     }
 
-    /// Marks a ready node as done.
-    pub fn done(&mut self, n: u32)
+    /// Marks a ready node as done, and answers nodes among which are all that are ready from now on and
+    /// weren't; some of them may not be. It takes no memory.
+    pub fn done(&mut self, n: u32) -> Vec<u32>
         requires { IsTrue (is_ready self.old n) }
-        ensures { self.new ≡ slice_set self.old n None }
+        ensures done { self.new ≡ slice_set self.old n None }
+        ensures freed { (m : ℕ) → is_ready self.new m ≡ true → (is_ready self.old m ≡ true) ⊎ Contains result.items m }
     {
         match self.slots.take(n) {
             Some(slot) => {
                 delist(&mut self.roots, &mut self.queues, &slot.node, n);
                 self.slots.tell_all(slot.next.numbers());
+                slot.next.into_numbers()
             }
-            None => {}
+            None => Vec::new(self.alloc),
         }
+    }
+
+    /// The node, where it is pending.
+    pub fn node(&self, n: u32) -> Option<&Node>
+        ensures { option_copied result ≡ unwrap_or (slice_get self.now n) None }
+    {
+        self.slots.node(n)
     }
 }
 

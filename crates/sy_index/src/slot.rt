@@ -39,6 +39,12 @@ impl Successors {
         self.numbers.as_slice()
     }
 
+    pub fn into_numbers(self) -> Vec<u32>
+        ensures { result.items ≡ self }
+    {
+        self.numbers
+    }
+
     fn push(&mut self, n: u32) -> Result<(), AllocError>
         ensures ok { OnOk result (self.new ≡ self.old ++ n ∷ []) }
         ensures err { OnErr result (self.new ≡ self.old) }

@@ -335,11 +335,14 @@ fn nodes_wait_for_those_named(rt: HostRuntime) -> Result<(), Fail> {
     enter(&mut index, alloc, (0, None, &[]))?;
     assert!(rt; index.ready(0));
     index.done(0);
+    assert!(rt; index.node(0).is_none());
     enter_after(&mut index, alloc, 0)?;
     enter_after(&mut index, alloc, 1)?;
     assert!(rt; index.ready(1), "it names one that is done");
     assert!(rt; !index.ready(2), "it names a pending one");
-    index.done(1);
+    assert!(rt; index.node(2).is_some());
+    let freed = index.done(1);
+    assert_eq!(rt; freed.as_slice(), [2].as_slice());
     assert!(rt; index.ready(2), "it named one that is done now");
     Ok(())
 }

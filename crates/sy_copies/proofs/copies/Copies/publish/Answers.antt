@@ -13,7 +13,7 @@ invariant_of-self c =
     let old : List (Option Buffer) = c.self.inside.buffers.items in
     let made : List (Option Buffer) = each_from (publish_at c.args.place c.args.needs.now c.args.log.now c.args.needs.now) 0 old in
     let all : take c.self.inside.buffers.len (c.publish_all.new.buffers ++ drop (length c.publish_all.new.buffers) old) ≡ c.publish_all.new.buffers = grind (arith, common_steps) in
-    let new : take c.self.inside.buffers.len (c.publish_all.new.buffers ++ drop (length c.publish_all.new.buffers) old) ≡ made = all ∙ (rw (c.items.ensures, c.as_mut_slice.ensures.value) at c.publish_all.ensures) in
+    let new : take c.self.inside.buffers.len (c.publish_all.new.buffers ++ drop (length c.publish_all.new.buffers) old) ≡ made = all ∙ (rw (c.items.ensures, c.as_mut_slice.ensures.value, c.by_log.ensures) at c.publish_all.ensures) in
     let may : MayPublish old c.args.place c.args.needs.now = subst (λ (l : List (Option Buffer)). MayPublish l c.args.place c.args.needs.now) (sym c.self.view_is) c.requires in
     let both = publishes old c.args.place c.args.needs.now c.args.log.now may c.self.invariant in
     subst Sound (sym new) both.1
@@ -23,7 +23,7 @@ returns-clause-published c =
     let old : List (Option Buffer) = c.self.inside.buffers.items in
     let made : List (Option Buffer) = each_from (publish_at c.args.place c.args.needs.now c.args.log.now c.args.needs.now) 0 old in
     let all : take c.self.inside.buffers.len (c.publish_all.new.buffers ++ drop (length c.publish_all.new.buffers) old) ≡ c.publish_all.new.buffers = grind (arith, common_steps) in
-    let new : take c.self.inside.buffers.len (c.publish_all.new.buffers ++ drop (length c.publish_all.new.buffers) old) ≡ made = all ∙ (rw (c.items.ensures, c.as_mut_slice.ensures.value) at c.publish_all.ensures) in
+    let new : take c.self.inside.buffers.len (c.publish_all.new.buffers ++ drop (length c.publish_all.new.buffers) old) ≡ made = all ∙ (rw (c.items.ensures, c.as_mut_slice.ensures.value, c.by_log.ensures) at c.publish_all.ensures) in
     let may : MayPublish old c.args.place c.args.needs.now = subst (λ (l : List (Option Buffer)). MayPublish l c.args.place c.args.needs.now) (sym c.self.view_is) c.requires in
     let both = publishes old c.args.place c.args.needs.now c.args.log.now may c.self.invariant in
     rw new (subst (λ (l : List (Option Buffer)). Publishes l made c.args.place c.args.needs.now c.args.log.now) c.self.view_is both.0)
@@ -33,7 +33,7 @@ returns-clause-agree c = λ agree.
     let old : List (Option Buffer) = c.self.inside.buffers.items in
     let made : List (Option Buffer) = each_from (publish_at c.args.place c.args.needs.now c.args.log.now c.args.needs.now) 0 old in
     let all : take c.self.inside.buffers.len (c.publish_all.new.buffers ++ drop (length c.publish_all.new.buffers) old) ≡ c.publish_all.new.buffers = grind (arith, common_steps) in
-    let new : take c.self.inside.buffers.len (c.publish_all.new.buffers ++ drop (length c.publish_all.new.buffers) old) ≡ made = all ∙ (rw (c.items.ensures, c.as_mut_slice.ensures.value) at c.publish_all.ensures) in
+    let new : take c.self.inside.buffers.len (c.publish_all.new.buffers ++ drop (length c.publish_all.new.buffers) old) ≡ made = all ∙ (rw (c.items.ensures, c.as_mut_slice.ensures.value, c.by_log.ensures) at c.publish_all.ensures) in
     let may : MayPublish old c.args.place c.args.needs.now = subst (λ (l : List (Option Buffer)). MayPublish l c.args.place c.args.needs.now) (sym c.self.view_is) c.requires in
     let both = publishes old c.args.place c.args.needs.now c.args.log.now may c.self.invariant in
     subst Agree (sym new) (agree_publishes old made c.args.place c.args.needs.now c.args.log.now may both.0 (subst Agree (sym c.self.view_is) agree))
