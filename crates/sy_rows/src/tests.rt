@@ -1641,6 +1641,45 @@ fn needs_meet(rt: HostRuntime) -> Result<(), Fail> {
     )
 }
 
+const READS_NO_FORMER_VALUES: Row = Row {
+    bodies: &[
+        &[&[
+            (Do::Spawn(1), Gets::Number(1)),
+            QUEUE,
+            (Do::Buffer(2), Gets::Number(0)),
+            (
+                Do::Submit(
+                    0,
+                    Does::Kernel(0),
+                    &[(0, Mode::Read, true, 0, 2), (0, Mode::Write, true, 0, 1)],
+                    &[],
+                ),
+                Gets::Any,
+            ),
+            (Do::Print("no"), Gets::Done),
+        ]],
+        &[&[
+            (Do::Buffer(2), Gets::Number(1)),
+            (Do::Open((1, Mode::Read, true, 0, 2)), Gets::Any),
+            (Do::Print("no"), Gets::Done),
+        ]],
+    ],
+    kernels: &[Outcomes::Writes(1, 0, &[1])],
+    ending: Ending::Stuck,
+    order: &[(0, 4), (1, 2)],
+    output: "",
+    copies: 0,
+};
+
+#[test]
+fn reads_no_former_values(rt: HostRuntime) -> Result<(), Fail> {
+    check(
+        &rt,
+        "a need with no_init that doesn't write",
+        &READS_NO_FORMER_VALUES,
+    )
+}
+
 /// Two commands on queue 0, of which the first waits for a host access and the second needs
 /// another buffer, and then a host access to that buffer.
 const TWO_COMMANDS: Part = &[

@@ -28,7 +28,7 @@ use Rattle.sy_settling.proofs.WaitLemmas.{awaits-swap, apply-told}
 
 -- ---- waits that are over
 
-told_all : Board → Board
+unfoldable pub told_all : Board → Board
 told_all d = heard (give_all d)
 
 unfinished : (xs : List Waits) (u : ℕ) → has_finished (slice_get (set xs u NoWait) u) ≡ false
@@ -52,11 +52,11 @@ due_told d u OnEntry h = refl
 due_told d u Never h = refl
 due_told d u (Finished v) h = refl
 
-given_told : (d : Board) (u : ℕ) (x : Waits) → has_finished (slice_get d.waits u) ≡ false → given (await d u NoWait) x ≡ given d x
+pub given_told : (d : Board) (u : ℕ) (x : Waits) → has_finished (slice_get d.waits u) ≡ false → given (await d u NoWait) x ≡ given d x
 given_told d u x h = ap (λ v. if v then Due Answered else x) (due_told d u x h)
 
 -- a thread whose wait is over has not finished, and waits for no entry
-over_unfinished : (d : Board) (w : Waits) → once_heard (given d w) ≡ NoWait → has_finished (Some w) ≡ false
+pub over_unfinished : (d : Board) (w : Waits) → once_heard (given d w) ≡ NoWait → has_finished (Some w) ≡ false
 over_unfinished d (OnNode n) h = refl
 over_unfinished d (OnQueue q n) h = refl
 over_unfinished d (OnThread v) h = refl
@@ -66,7 +66,7 @@ over_unfinished d OnEntry h = refl
 over_unfinished d Never h = refl
 over_unfinished d (Finished v) h = absurd cc
 
-over_idle : (d : Board) (w : Waits) → once_heard (given d w) ≡ NoWait → is_idle (Some w) ≡ true
+pub over_idle : (d : Board) (w : Waits) → once_heard (given d w) ≡ NoWait → is_idle (Some w) ≡ true
 over_idle d OnEntry h = absurd cc
 over_idle d (OnNode n) h = refl
 over_idle d (OnQueue q n) h = refl
@@ -87,7 +87,7 @@ maps_told f g h (x ∷ xs) zero w e k m =
 maps_told f g h (x ∷ xs) (suc u) w e k m =
     ap (λ y. once_heard y ∷ map once_heard (map f (set xs u NoWait))) (h x) ∙ ap (λ l. once_heard (g x) ∷ l) (maps_told f g h xs u w e k m)
 
-told_all-one : (d : Board) (u : ℕ) (w : Waits) → slice_get d.waits u ≡ Some w → once_heard (given d w) ≡ NoWait → told_all (await d u NoWait) ≡ told_all d
+pub told_all-one : (d : Board) (u : ℕ) (w : Waits) → slice_get d.waits u ≡ Some w → once_heard (given d w) ≡ NoWait → told_all (await d u NoWait) ≡ told_all d
 unfolding told_all give_all
 told_all-one d u w g k =
     let h : has_finished (slice_get d.waits u) ≡ false = ap has_finished g ∙ over_unfinished d w k in
@@ -102,7 +102,7 @@ due_is false w n h = n h
 is_over : (v : Bool) (w : Waits) → v ≡ true → once_heard (if v then Due Answered else w) ≡ NoWait
 is_over v w h = ap (λ u. once_heard (if u then Due Answered else w)) h
 
-over_lasts : (d c : Board) (u : ℕ) (w : Waits) → IsOrderly d → Lasts d c → ((v : ℕ) → has_finished (slice_get d.waits v) ≡ true → has_finished (slice_get c.waits v) ≡ true) → slice_get d.waits u ≡ Some w → once_heard (given d w) ≡ NoWait → once_heard (given c w) ≡ NoWait
+pub over_lasts : (d c : Board) (u : ℕ) (w : Waits) → IsOrderly d → Lasts d c → ((v : ℕ) → has_finished (slice_get d.waits v) ≡ true → has_finished (slice_get c.waits v) ≡ true) → slice_get d.waits u ≡ Some w → once_heard (given d w) ≡ NoWait → once_heard (given c w) ≡ NoWait
 over_lasts d c u (OnNode n) o l f g h = is_over _ (OnNode n) (l.node n (due_is (node_done d.entries n) (OnNode n) (λ p. absurd cc) h))
 over_lasts d c u (OnQueue q n) o l f g h = is_over _ (OnQueue q n) (l.queue q n (o.queued u q n g) (due_is (queue_done d.entries q n) (OnQueue q n) (λ p. absurd cc) h))
 over_lasts d c u (OnThread v) o l f g h = is_over _ (OnThread v) (f v (due_is (has_finished (slice_get d.waits v)) (OnThread v) (λ p. absurd cc) h))
@@ -112,13 +112,13 @@ over_lasts d c u OnEntry o l f g h = absurd cc
 over_lasts d c u Never o l f g h = absurd cc
 over_lasts d c u (Finished v) o l f g h = absurd cc
 
-settle-still : (out : OutcomeOf) (b : Board) (u : ℕ) (w : Waits) → IsOrderly b → is_idle (Some w) ≡ true → slice_get b.waits u ≡ Some w → slice_get (settle out b).waits u ≡ Some w
+pub settle-still : (out : OutcomeOf) (b : Board) (u : ℕ) (w : Waits) → IsOrderly b → is_idle (Some w) ≡ true → slice_get b.waits u ≡ Some w → slice_get (settle out b).waits u ≡ Some w
 settle-still out b u w o i g =
     settle-keeps (λ d. slice_get d.waits u ≡ Some w) out
     (λ d n x p r. ap (λ z. slice_get z.waits u) (effect-act out d n x) ∙ told-other (act_at out d x).due d.waits u (untold d (act_at out d x) n x u (scene out d n x u (ap is_idle p ∙ i) r)) ∙ p)
     b o g
 
-settle-lasts : (out : OutcomeOf) (b : Board) → IsOrderly b → Lasts b (settle out b)
+pub settle-lasts : (out : OutcomeOf) (b : Board) → IsOrderly b → Lasts b (settle out b)
 settle-lasts out b o =
     settle-keeps (Lasts b) out
     (λ d n x p r. lasts-trans b d (effect out d n x x.work) p
@@ -136,7 +136,7 @@ finished_is (Some (OnThread v)) h = absurd cc
 finished_is (Some Never) h = absurd cc
 finished_is None h = absurd cc
 
-settle-finished : (out : OutcomeOf) (b : Board) (v : ℕ) → IsOrderly b → has_finished (slice_get b.waits v) ≡ true → has_finished (slice_get (settle out b).waits v) ≡ true
+pub settle-finished : (out : OutcomeOf) (b : Board) (v : ℕ) → IsOrderly b → has_finished (slice_get b.waits v) ≡ true → has_finished (slice_get (settle out b).waits v) ≡ true
 settle-finished out b v o h =
     let f = finished_is (slice_get b.waits v) h in
     ap has_finished (settle-still out b v (Finished f.0) o refl f.1)
@@ -152,19 +152,19 @@ over-told out b u w o g h =
 -- ---- a step
 
 -- the thread may make the ask on the board
-record Asking (d : Board) (t : ℕ) (q : Ask) : Type 0 where
-  orderly : IsOrderly d
-  ready : slice_get d.waits t ≡ Some NoWait
-  clear : is_clear d q ≡ true
+pub record Asking (d : Board) (t : ℕ) (q : Ask) : Type 0 where
+  pub orderly : IsOrderly d
+  pub ready : slice_get d.waits t ≡ Some NoWait
+  pub clear : is_clear d q ≡ true
 
 -- the board after the ask, before answers are given
-went : OutcomeOf → ℕ → Ask → Board → Board
+unfoldable pub went : OutcomeOf → ℕ → Ask → Board → Board
 went out t q d = settle out (apply (begin_ask d t) t q)
 
-asking_idle : (d : Board) (t : ℕ) (q : Ask) → Asking d t q → is_idle (slice_get d.waits t) ≡ true
+pub asking_idle : (d : Board) (t : ℕ) (q : Ask) → Asking d t q → is_idle (slice_get d.waits t) ≡ true
 asking_idle d t q a = ap is_idle a.ready
 
-asking_may : (d : Board) (t : ℕ) (q : Ask) → Asking d t q → MayAsk (begin_ask d t) t q
+pub asking_may : (d : Board) (t : ℕ) (q : Ask) → Asking d t q → MayAsk (begin_ask d t) t q
 asking_may d t q a = record { idle = idle_begun d t (asking_idle d t q a); clear = clear_begun d t q a.clear }
 
 apply-still : (b : Board) (u t : ℕ) (w : Waits) (q : Ask) → u ≢ t → is_idle (slice_get b.waits t) ≡ true → slice_get b.waits u ≡ Some w → slice_get (apply b t q).waits u ≡ Some w
@@ -184,23 +184,23 @@ orderly_asked d t q a = orderly-apply (begin_ask d t) t q (orderly-begin_ask d t
 asked-still : (d : Board) (u t : ℕ) (w : Waits) (q : Ask) → Asking d t q → u ≢ t → slice_get d.waits u ≡ Some w → slice_get (apply (begin_ask d t) t q).waits u ≡ Some w
 asked-still d u t w q a ne g = apply-still (begin_ask d t) u t w q ne (asking_may d t q a).idle (get-set_other d.waits t u Never ne ∙ g)
 
-went-still : (out : OutcomeOf) (d : Board) (u t : ℕ) (w : Waits) (q : Ask) → Asking d t q → u ≢ t → is_idle (Some w) ≡ true → slice_get d.waits u ≡ Some w → slice_get (went out t q d).waits u ≡ Some w
+pub went-still : (out : OutcomeOf) (d : Board) (u t : ℕ) (w : Waits) (q : Ask) → Asking d t q → u ≢ t → is_idle (Some w) ≡ true → slice_get d.waits u ≡ Some w → slice_get (went out t q d).waits u ≡ Some w
 unfolding went
 went-still out d u t w q a ne i g = settle-still out (apply (begin_ask d t) t q) u w (orderly_asked d t q a) i (asked-still d u t w q a ne g)
 
-went-lasts : (out : OutcomeOf) (d : Board) (t : ℕ) (q : Ask) → Asking d t q → Lasts d (went out t q d)
+pub went-lasts : (out : OutcomeOf) (d : Board) (t : ℕ) (q : Ask) → Asking d t q → Lasts d (went out t q d)
 unfolding went
 went-lasts out d t q a =
     let c = apply (begin_ask d t) t q in
     lasts-trans d (begin_ask d t) (settle out c) (begin_ask-lasts d t) (lasts-trans (begin_ask d t) c (settle out c) (apply-follows (begin_ask d t) t q (asking_may d t q a).idle).lasts (settle-lasts out c (orderly_asked d t q a)))
 
-went-finished : (out : OutcomeOf) (d : Board) (t : ℕ) (q : Ask) (v : ℕ) → Asking d t q → has_finished (slice_get d.waits v) ≡ true → has_finished (slice_get (went out t q d).waits v) ≡ true
+pub went-finished : (out : OutcomeOf) (d : Board) (t : ℕ) (q : Ask) (v : ℕ) → Asking d t q → has_finished (slice_get d.waits v) ≡ true → has_finished (slice_get (went out t q d).waits v) ≡ true
 went-finished out d t q v a h =
     let f = finished_is (slice_get d.waits v) h in
     let ne : v ≢ t = λ e. (let z : Some (Finished f.0) ≡ Some NoWait = sym f.1 ∙ ap (slice_get d.waits) e ∙ a.ready in absurd (let y : Finished f.0 ≡ NoWait = some_is z in cc)) in
     ap has_finished (went-still out d v t (Finished f.0) q a ne refl f.1)
 
-went-told : (out : OutcomeOf) (d : Board) (u t : ℕ) (w r : Waits) (q : Ask) → Asking d t q → u ≢ t → is_idle (Some w) ≡ true → slice_get d.waits u ≡ Some w → went out t q (await d u r) ≡ await (went out t q d) u r
+pub went-told : (out : OutcomeOf) (d : Board) (u t : ℕ) (w r : Waits) (q : Ask) → Asking d t q → u ≢ t → is_idle (Some w) ≡ true → slice_get d.waits u ≡ Some w → went out t q (await d u r) ≡ await (went out t q d) u r
 unfolding went
 went-told out d u t w r q a ne i g =
     let c = apply (begin_ask d t) t q in
@@ -209,7 +209,7 @@ went-told out d u t w r q a ne i g =
     ∙ ap (settle out) (apply-told (begin_ask d t) u t r q ne (slice_get_within (begin_ask d t).waits u w at))
     ∙ await-settle out c u r (orderly_asked d t q a) (ap is_idle (asked-still d u t w q a ne g) ∙ i)
 
-same_told : (d : Board) (u : ℕ) (w : Waits) → slice_get d.waits u ≡ Some w → await d u w ≡ d
+pub same_told : (d : Board) (u : ℕ) (w : Waits) → slice_get d.waits u ≡ Some w → await d u w ≡ d
 same_told d u w g = ap (λ l. let c : Board = record d { waits = l } in c) (set-same d.waits u w g)
 
 one_told : (out : OutcomeOf) (d : Board) (u t : ℕ) (w : Waits) (q : Ask) → Asking d t q → slice_get d.waits u ≡ Some w → once_heard (given d w) ≡ NoWait → told_all (went out t q (await d u NoWait)) ≡ told_all (went out t q d)
@@ -244,21 +244,21 @@ asking_told d u t w q a g i = record {
 
 -- ---- each thread in turn
 
-hear_one : Board → ℕ → Option Waits → Board
+unfoldable pub hear_one : Board → ℕ → Option Waits → Board
 hear_one d k None = d
 hear_one d k (Some w) = await d k (once_heard (given d w))
 
-hear_upto : Board → ℕ → Board
+unfoldable pub hear_upto : Board → ℕ → Board
 hear_upto c zero = c
 hear_upto c (suc k) = hear_one (hear_upto c k) k (slice_get (hear_upto c k).waits k)
 
 -- the threads below k have heard what c has for them, and the ask comes to the same
-record Chain (out : OutcomeOf) (t : ℕ) (q : Ask) (c d : Board) (k : ℕ) : Type 0 where
-  asking : Asking d t q
-  threads : length d.waits ≡ length c.waits
-  alike : told_all d ≡ told_all c
-  goes : told_all (went out t q d) ≡ told_all (went out t q c)
-  past : (j : ℕ) (w : Waits) → j < k → slice_get d.waits j ≡ Some w → once_heard (given d w) ≡ w
+pub record Chain (out : OutcomeOf) (t : ℕ) (q : Ask) (c d : Board) (k : ℕ) : Type 0 where
+  pub asking : Asking d t q
+  pub threads : length d.waits ≡ length c.waits
+  pub alike : told_all d ≡ told_all c
+  pub goes : told_all (went out t q d) ≡ told_all (went out t q c)
+  pub past : (j : ℕ) (w : Waits) → j < k → slice_get d.waits j ≡ Some w → once_heard (given d w) ≡ w
 
 over_or : (v : Bool) (w : Waits) → once_heard w ≡ w → (once_heard (if v then Due Answered else w) ≡ w) ⊎ (once_heard (if v then Due Answered else w) ≡ NoWait)
 over_or true w h = inr refl
@@ -267,7 +267,7 @@ over_or false w h = inl h
 below : (j k : ℕ) → j ≢ k → j < suc k → j < k
 below j k ne lt = omega arith
 
-stays_or_over : (d : Board) (w : Waits) → (once_heard (given d w) ≡ w) ⊎ (once_heard (given d w) ≡ NoWait)
+pub stays_or_over : (d : Board) (w : Waits) → (once_heard (given d w) ≡ w) ⊎ (once_heard (given d w) ≡ NoWait)
 stays_or_over d NoWait = inl refl
 stays_or_over d (Due a) = inr refl
 stays_or_over d OnEntry = inl refl
@@ -277,7 +277,7 @@ stays_or_over d (OnNode n) = over_or (is_due d (OnNode n)) (OnNode n) refl
 stays_or_over d (OnQueue q n) = over_or (is_due d (OnQueue q n)) (OnQueue q n) refl
 stays_or_over d (OnThread v) = over_or (is_due d (OnThread v)) (OnThread v) refl
 
-chain_stays : (out : OutcomeOf) (t : ℕ) (q : Ask) (c d : Board) (k : ℕ) → ((w : Waits) → slice_get d.waits k ≡ Some w → once_heard (given d w) ≡ w) → Chain out t q c d k → Chain out t q c d (suc k)
+pub chain_stays : (out : OutcomeOf) (t : ℕ) (q : Ask) (c d : Board) (k : ℕ) → ((w : Waits) → slice_get d.waits k ≡ Some w → once_heard (given d w) ≡ w) → Chain out t q c d k → Chain out t q c d (suc k)
 chain_stays out t q c d k h f = record {
   asking = f.asking;
   threads = f.threads;
@@ -289,7 +289,7 @@ chain_stays out t q c d k h f = record {
   ];
 }
 
-chain_told : (out : OutcomeOf) (t : ℕ) (q : Ask) (c d : Board) (k : ℕ) (w : Waits) → slice_get d.waits k ≡ Some w → once_heard (given d w) ≡ NoWait → Chain out t q c d k → Chain out t q c (await d k NoWait) (suc k)
+pub chain_told : (out : OutcomeOf) (t : ℕ) (q : Ask) (c d : Board) (k : ℕ) (w : Waits) → slice_get d.waits k ≡ Some w → once_heard (given d w) ≡ NoWait → Chain out t q c d k → Chain out t q c (await d k NoWait) (suc k)
 chain_told out t q c d k w g h f =
     let u : has_finished (slice_get d.waits k) ≡ false = ap has_finished g ∙ over_unfinished d w h in
     record {
@@ -323,7 +323,7 @@ map_fixed : (f : Waits → Waits) (xs : List Waits) → ((j : ℕ) (w : Waits) �
 map_fixed f [] h = refl
 map_fixed f (x ∷ xs) h = ap (λ y. y ∷ map once_heard (map f xs)) (h 0 x refl) ∙ ap (λ l. x ∷ l) (map_fixed f xs (λ j w g. h (suc j) w g))
 
-told_all-fixed : (d : Board) → ((j : ℕ) (w : Waits) → slice_get d.waits j ≡ Some w → once_heard (given d w) ≡ w) → told_all d ≡ d
+pub told_all-fixed : (d : Board) → ((j : ℕ) (w : Waits) → slice_get d.waits j ≡ Some w → once_heard (given d w) ≡ w) → told_all d ≡ d
 unfolding told_all give_all
 told_all-fixed d h = ap (λ l. let c : Board = record d { waits = l } in c) (map_fixed (given d) d.waits h)
 
@@ -336,14 +336,14 @@ all_told out t q c a =
     let fixed : told_all d ≡ d = told_all-fixed d (λ j w g. f.past j w (let lt = slice_get_within d.waits j w g in let e = f.threads in omega arith) g) in
     ap (λ z. told_all (went out t q z)) (sym f.alike ∙ fixed) ∙ f.goes
 
-went-settle : (out : OutcomeOf) (b : Board) (t : ℕ) (q : Ask) → Asking b t q → went out t q (settle out b) ≡ went out t q b
+pub went-settle : (out : OutcomeOf) (b : Board) (t : ℕ) (q : Ask) → Asking b t q → went out t q (settle out b) ≡ went out t q b
 unfolding went
 went-settle out b t q a =
     let i = asking_idle b t q a in
     ap (λ z. settle out (apply z t q)) (sym (begin_ask-settle out b t a.orderly i))
     ∙ ask-settle out (begin_ask b t) t q (orderly-begin_ask b t a.orderly i) (asking_may b t q a)
 
-settle-asking : (out : OutcomeOf) (b : Board) (t : ℕ) (q : Ask) → Asking b t q → Asking (settle out b) t q
+pub settle-asking : (out : OutcomeOf) (b : Board) (t : ℕ) (q : Ask) → Asking b t q → Asking (settle out b) t q
 settle-asking out b t q a = record {
   orderly = orderly-settle out b a.orderly;
   ready = settle-still out b t NoWait a.orderly refl a.ready;

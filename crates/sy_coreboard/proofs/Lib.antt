@@ -1,0 +1,11 @@
+pub mod NeedLemmas
+pub mod LiveLemmas
+pub mod EffectLemmas
+pub mod TaskLemmas
+pub mod AskLemmas
+pub mod HostLemmas
+pub mod EndingLemmas
+pub mod TallyLemmas
+pub mod ChoiceLemmas
+pub mod OpeningLemmas
+pub mod TicketLemmas

@@ -1,0 +1,4 @@
+pub mod SumLemmas
+pub mod EntryCountLemmas
+pub mod ErrorLemmas
+pub mod BufferCountLemmas
