@@ -1,8 +1,8 @@
 -- The states that groups leave, cell by cell.
-use Rattle.std.proofs.Common.{◌≡◌, ◌≢◌, refl, sym, ap, subst, ◌∙◌, ℕ, zero, suc, ◌+◌, ◌<◌, Bool, true, false, cond, List, [], ◌∷◌, length, drop, set, get_or, Option, Some, None, ◌⊎◌, inl, inr, arith, eq-eqb}
+use Rattle.std.proofs.Common.{◌≡◌, ◌≢◌, refl, sym, ap, subst, ◌∙◌, ℕ, zero, suc, ◌+◌, ◌<◌, Bool, true, false, List, [], ◌∷◌, length, drop, set, get_or, Option, Some, None, ◌⊎◌, inl, inr, eq-eqb}
 use Rattle.std.specs.List.{list_any}
 use Rattle.std.specs.Prelude.{slice_get, nat_eq}
-use Rattle.std.proofs.lemmas.Bool.{cases_Bool, eqb-true, ne_eqb}
+use Rattle.std.proofs.lemmas.Bool.{cases_Bool, eqb-true}
 use Rattle.std.proofs.lemmas.Bool.Decides.{eqb_tells}
 use Rattle.std.proofs.lemmas.List.{drop_more}
 use Rattle.std.proofs.lemmas.List.Folds.{Any-from_list_any, list_any_at}
@@ -63,6 +63,11 @@ meets_entry states e = state_meets e.wrote (slice_get states e.cell)
 pub told : (r b : Bool) (states now : List State) (es listed : List Entry) → r ≡ list_any (meets_entry now) listed → now ≡ states → listed ≡ es → r ≡ b → list_any (meets_entry states) es ≡ b
 told r b states now es listed is same_states same_entries answer =
     subst (λ l. list_any (meets_entry l) es ≡ b) same_states (subst (λ l. list_any (meets_entry now) l ≡ b) same_entries (sym is ∙ answer))
+
+pub clean-seen : (states : List State) (index : List ℕ) (es : List Entry) → list_any (meets_entry states) es ≡ false → (c : ℕ) (e : Entry) → seen index es c ≡ Some e → state_meets e.wrote (slice_get states c) ≡ false
+clean-seen states index es none c e is =
+    let x = none-seen (meets_entry states) index es none c e is in
+    subst (λ d. state_meets e.wrote (slice_get states d) ≡ false) x.1 x.0
 
 -- ---- the states cell by cell
 
@@ -141,6 +146,11 @@ after_same : (s : Option State) (o : Option Entry) → state_after s o ≡ state
 after_same s None = refl
 after_same s (Some x) = refl
 
+set_length : (states : List State) (k : ℕ) (t : State) → length (set states k t) ≡ length states
+set_length [] k t = refl
+set_length (s ∷ states) zero t = refl
+set_length (s ∷ states) (suc k) t = ap (λ n. suc n) (set_length states k t)
+
 put_step : (states : List State) (e : Entry) (c : ℕ) (o : Option Entry) → state_after (slice_get (set states e.cell (state_of e.wrote)) c) o ≡ state_after (slice_get states c) (or_later o (own c (Some e)))
 put_step states e c o =
     elim (eqb_tells e.cell c) [
@@ -160,6 +170,10 @@ after_none (Some s) = refl
 joined-found : (states : List State) (es : List Entry) (c : ℕ) → slice_get (joined states es) c ≡ state_after (slice_get states c) (found es c)
 joined-found states [] c = after_none (slice_get states c)
 joined-found states (e ∷ es) c = joined-found (set states e.cell (state_of e.wrote)) es c ∙ put_step states e c (found es c)
+
+pub joined-length : (states : List State) (es : List Entry) → length (joined states es) ≡ length states
+joined-length states [] = refl
+joined-length states (e ∷ es) = joined-length (set states e.cell (state_of e.wrote)) es ∙ set_length states e.cell (state_of e.wrote)
 
 -- what is joined is a change cell by cell
 pub joined-at : (states : List State) (index : List ℕ) (es : List Entry) (c : ℕ) → IsPlaced index es → slice_get (joined states es) c ≡ state_after (slice_get states c) (seen index es c)

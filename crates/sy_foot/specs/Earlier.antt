@@ -1,5 +1,5 @@
 -- What the earlier groups did to each cell that groups share.
-use Rattle.std.specs.Prelude.{◌≡◌, ℕ, Bool, true, false, if◌then◌else◌, List, [], ◌∷◌, Option, Some, None, slice_set}
+use Rattle.std.specs.Prelude.{Bool, true, false, if◌then◌else◌, List, [], ◌∷◌, Option, Some, None, slice_set}
 use Rattle.sy_foot.specs.declared.entry.Entry.{Entry}
 use Rattle.sy_foot.specs.declared.earlier.State.{State}
 use Rattle.sy_foot.specs.declared.earlier.State.TheVariants.{Untouched, Read, Written}

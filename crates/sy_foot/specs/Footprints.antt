@@ -1,9 +1,10 @@
 -- What is kept of a group's touches: the turn of the item that runs (each item of each phase has one of its own, ever
 -- greater), the turn at which the phase began, an entry for each cell, and the cells in the order of their first writes.
-use Rattle.std.specs.Prelude.{◌≡◌, ◌≢◌, ℕ, ℤ, Bool, true, false, if◌then◌else◌, nat_lt, nat_le, ◌&&◌, ◌++◌, List, [], ◌∷◌, Option, Some, None}
+use Rattle.std.specs.Prelude.{◌≡◌, ◌≢◌, ℕ, ℤ, Bool, true, false, if◌then◌else◌, nat_lt, nat_le, ◌&&◌, List, Option, Some, None}
 use Rattle.sy_foot.specs.declared.entry.Entry.{Entry}
 use Rattle.sy_foot.specs.declared.footprint.Footprint.{Footprint}
 use Rattle.sy_foot.specs.Kept.{entry_at, cell_count}
+use Rattle.sy_foot.specs.Writes.{first_written, is_written}
 
 -- what is kept of a cell
 abbrev pub kept : Footprint → ℕ → Option Entry
@@ -38,15 +39,6 @@ abbrev pub write_clashes : Footprint → Option Entry → Bool
 write_clashes f None = false
 write_clashes f (Some e) = is_earlier f e.touch
 
--- the number in the cell
-abbrev pub number_of : ℤ → Option Entry → ℤ
-number_of opening None = opening
-number_of opening (Some e) = e.number
-
-abbrev pub is_written : Option Entry → Bool
-is_written None = false
-is_written (Some e) = e.wrote
-
 -- the phase's first touch of the cell
 abbrev pub first_touch : Footprint → ℕ → ℕ
 first_touch f touch = if nat_lt touch f.start then f.turn else touch
@@ -61,9 +53,6 @@ abbrev pub after_write : Footprint → ℕ → ℤ → Entry
 after_write f c number = record { cell = c; wrote = true; number = number; touch = f.turn; write = f.turn }
 
 -- the cells in the order of their first writes, after a write
-abbrev pub first_written : Bool → List ℕ → ℕ → List ℕ
-first_written wrote cells c = if wrote then cells else cells ++ c ∷ []
-
 abbrev pub written_with : Footprint → ℕ → List ℕ
 written_with f c = first_written (is_written (kept f c)) f.written.items c
 

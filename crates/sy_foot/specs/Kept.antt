@@ -1,5 +1,5 @@
 -- What a sparse set keeps of each cell.
-use Rattle.std.specs.Prelude.{◌≡◌, ℕ, List, length, Option}
+use Rattle.std.specs.Prelude.{◌≡◌, ℕ, length, Option}
 use Rattle.sy_foot.specs.declared.entry.Entry.{Entry}
 use Rattle.sy_foot.specs.declared.entries.Entries.{Entries}
 use Rattle.sy_foot.specs.Sparse.{seen}

@@ -1,5 +1,10 @@
 pub mod Earlier
 pub mod Footprints
+pub mod GroupLogs
 pub mod Kept
+pub mod Numbered
+pub mod Numbering
+pub mod Runs
 pub mod Sparse
 pub mod Summaries
+pub mod Writes

@@ -3,7 +3,8 @@
 ghost use Rattle.std.specs.Prelude.{◌≡◌, ◌+◌, ◌^◌, ◌-◌, ◌<◌, ◌≤◌, ◌↔◌, ℕ, [], IsTrue, IfOk, option_map, OnOk, OnErr, None, Err};
 ghost use Rattle.sy_foot.specs.declared.stops.TouchStop.TheVariants.{Clash, Memory, Outside};
 ghost use Rattle.sy_foot.specs.Sparse.{IsPlaced};
-ghost use Rattle.sy_foot.specs.Footprints.{kept, room, turn_of, phase_start, written_by, is_earlier, first_written, read_clashes, write_clashes, number_of, after_read, after_write, written_with, Notes, Stays, Advances};
+ghost use Rattle.sy_foot.specs.Kept.{entry_at};
+ghost use Rattle.sy_foot.specs.Writes.{AreFirstWrites, first_written, number_of};
 
 use crate::entries::Entries;
 use crate::entry::Entry;
@@ -20,9 +21,12 @@ pub struct Footprint {
     written: Vec<u32>,
     start: u64,
     turn: u64,
+    ghost first_writes: { AreFirstWrites written.items (entry_at entries) },
 }
 
 impl Footprint {
+    ghost use Rattle.sy_foot.specs.Footprints.{kept, room, turn_of, phase_start, written_by, is_earlier, read_clashes, write_clashes, after_read, after_write, written_with, Notes, Stays, Advances};
+
     /// A group that has touched nothing, with room for the cells below `cells`.
     pub fn new(alloc: Global, cells: usize) -> Result<Footprint, AllocError>
         ensures room { IfOk result (λ f. room f ≡ cells) }
@@ -165,7 +169,8 @@ impl Footprint {
 
     /// The cells that the group wrote, in the order of their first writes.
     pub fn written(&self) -> &[u32]
-        ensures { result.now ≡ written_by self.now }
+        ensures cells { result.now ≡ written_by self.now }
+        ensures first { AreFirstWrites result.now (kept self.now) }
     {
         self.written.as_slice()
     }
@@ -177,6 +182,16 @@ impl Footprint {
         match self.entries.look(cell) {
             Some((_k, entry)) => Some(entry.number),
             None => None,
+        }
+    }
+
+    /// The group's number in a cell, or else the opening one.
+    pub(crate) fn number_or(&self, cell: u32, opening: i128) -> i128
+        ensures { result ≡ number_of opening (kept self.now cell) }
+    {
+        match self.entries.look(cell) {
+            Some((_k, entry)) => entry.number,
+            None => opening,
         }
     }
 }

@@ -8,12 +8,15 @@ mod earlier;
 mod entries;
 mod entry;
 mod footprint;
+mod numbering;
+mod runs;
 mod stops;
 
 pub use earlier::{EarlierGroups, State};
 pub use entry::Entry;
 pub use footprint::Footprint;
-pub use stops::TouchStop;
+pub use numbering::CellNumbers;
+pub use stops::{AbsorbStop, NumberingStop, TouchStop};
 
 #[cfg(test)]
 mod tests;

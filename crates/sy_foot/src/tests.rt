@@ -2,6 +2,7 @@ use super::*;
 use std::alloc::Global;
 use std::process::Abort;
 use std::test::Fail;
+use sy_access::{Cell, Mode, Need};
 
 /// Cells below this one are shared by groups.
 const SHARED: u32 = 6;
@@ -133,6 +134,30 @@ fn run_groups(rt: &impl Abort, alloc: Global, draw: &mut Draw) -> Result<(), Fai
         }
         absorb(rt, &footprint, &mut groups, &mut earlier, taken.as_slice())?;
     }
+    let needs = [need(0, 0, SHARED)];
+    let numbers = CellNumbers::new(alloc, &needs, &[(CELLS - SHARED) as u64])?;
+    let log = groups.log(alloc, &numbers)?;
+    let mut want = Vec::new(alloc);
+    for step in &earlier {
+        note(&mut want, step)?;
+    }
+    assert_eq!(rt; log.items(), want.as_slice());
+    Ok(())
+}
+
+/// Each shared cell once with its last number, in the order of first writes.
+fn note(log: &mut Vec<(Cell, i128)>, step: &Step) -> Result<(), Fail> {
+    if !step.writes || step.cell >= SHARED {
+        return Ok(());
+    }
+    let cell = Cell::Buffer(0, step.cell);
+    for (c, number) in log.iter_mut() {
+        if *c == cell {
+            *number = step.number;
+            return Ok(());
+        }
+    }
+    log.push((cell, step.number))?;
     Ok(())
 }
 
@@ -152,7 +177,15 @@ fn absorb(
         );
     }
     let meets = taken.iter().any(|s| s.meets_groups(earlier.as_slice()));
-    assert_eq!(rt; groups.absorb(footprint), !meets);
+    let absorbed = groups.absorb(footprint);
+    assert_eq!(rt;
+        absorbed,
+        if meets {
+            Err(AbsorbStop::Clash)
+        } else {
+            Ok(())
+        }
+    );
     if !meets {
         earlier.extend_from_slice(taken)?;
     }
@@ -162,7 +195,7 @@ fn absorb(
 #[test]
 fn drawn_steps(rt: HostRuntime) -> Result<(), Fail> {
     let mut draw = Draw(2026);
-    for _ in 0..500u32 {
+    for _ in 0..2000u32 {
         run_groups(&rt, rt.alloc(), &mut draw)?;
     }
     Ok(())
@@ -186,5 +219,80 @@ fn one_group(rt: HostRuntime) -> Result<(), Fail> {
     assert_eq!(rt; f.entries().len(), 2);
     f.clear();
     assert_eq!(rt; f.read(1, 5), Ok(5));
+    Ok(())
+}
+
+#[test]
+fn a_group_goes_on_after_it_meets_another(rt: HostRuntime) -> Result<(), Fail> {
+    let mut groups = EarlierGroups::new(rt.alloc(), 2)?;
+    let mut f = Footprint::new(rt.alloc(), 2)?;
+    assert_eq!(rt; f.write(0, 1), Ok(()));
+    assert_eq!(rt; groups.absorb(&f), Ok(()));
+    f.clear();
+    assert!(rt; groups.meets(0, false));
+    assert_eq!(rt; f.read(0, 7), Ok(7), "the opening number");
+    assert_eq!(rt; f.write(1, 2), Ok(()));
+    f.next_item()?;
+    assert_eq!(rt; f.read(1, 7), Err(TouchStop::Clash), "its own failure");
+    assert_eq!(rt; groups.absorb(&f), Err(AbsorbStop::Clash));
+    Ok(())
+}
+
+fn need(buffer: u32, from: u32, to: u32) -> Need {
+    Need {
+        buffer,
+        mode: Mode::ReadWrite,
+        no_init: false,
+        from,
+        to,
+    }
+}
+
+#[test]
+fn cells_are_numbered(rt: HostRuntime) -> Result<(), Fail> {
+    let needs = [need(3, 0, 4), need(5, 7, 9), need(3, 9, 9), need(3, 2, 6)];
+    let numbers = CellNumbers::new(rt.alloc(), &needs, &[2, 0, 1])?;
+    assert_eq!(rt; (numbers.count(), numbers.shared()), (11, 8));
+    let cells = [
+        (Cell::Buffer(5, 7), 0),
+        (Cell::Buffer(5, 8), 1),
+        (Cell::Buffer(3, 0), 2),
+        (Cell::Buffer(3, 5), 7),
+        (Cell::Local(0, 0), 8),
+        (Cell::Local(2, 0), 10),
+    ];
+    for (cell, number) in cells {
+        assert_eq!(rt; numbers.number(cell), Some(number), "{cell:?}");
+        assert_eq!(rt; numbers.cell(number), Some(cell), "{number}");
+    }
+    for cell in [
+        Cell::Buffer(3, 6),
+        Cell::Buffer(4, 0),
+        Cell::Local(1, 0),
+        Cell::Local(3, 0),
+    ] {
+        assert_eq!(rt; numbers.number(cell), None, "{cell:?}");
+    }
+    assert_eq!(rt; numbers.cell(11), None);
+    Ok(())
+}
+
+#[test]
+fn too_many_cells(rt: HostRuntime) -> Result<(), Fail> {
+    let whole = need(0, 0, u32::MAX);
+    assert_eq!(rt;
+        CellNumbers::new(rt.alloc(), &[whole, whole], &[])?.count(),
+        u32::MAX
+    );
+    for (needs, lengths) in [
+        ([whole, need(1, 0, 1)], [0]),
+        ([whole, whole], [1]),
+        ([need(0, 0, 0), need(0, 0, 0)], [1 << 32]),
+    ] {
+        match CellNumbers::new(rt.alloc(), &needs, &lengths) {
+            Ok(_) => assert!(rt; false),
+            Err(stop) => assert_eq!(rt; stop, NumberingStop::TooMany),
+        }
+    }
     Ok(())
 }

@@ -1,4 +1,4 @@
-use Rattle.std.proofs.Common.{rules, arith, ◌≡◌, ap, ◌∙◌, ◌++◌, ◌∷◌, [], ◌<◌, length}
+use Rattle.std.proofs.Common.{rules, ◌≡◌, ap, ◌∙◌, ◌++◌, ◌∷◌, [], ◌<◌, length}
 use Rattle.sy_foot.proofs.SparseLemmas.{placed-added, puts-added}
 use Rattle.sy_foot.proofs.entries.Entries.add.Goals as goal
 

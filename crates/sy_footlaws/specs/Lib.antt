@@ -1,0 +1,4 @@
+pub mod Courses
+pub mod Groups
+pub mod Kernels
+pub mod Standing
