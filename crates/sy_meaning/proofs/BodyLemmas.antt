@@ -4,7 +4,6 @@ use Rattle.sy_num.specs.declared.Kind.{Kind}
 use Rattle.sy_typed.specs.declared.tree.Typed.{Typed}
 use Rattle.sy_typed.specs.declared.tree.TypedStmt.{TypedStmt}
 use Rattle.sy_typed.specs.declared.tree.Variable.{Variable}
-use Rattle.sy_work.specs.declared.asks.Answer.{Answer}
 use Rattle.sy_meaning.specs.declared.outcomes.Flow.TheVariants as flow
 use Rattle.sy_meaning.specs.declared.runs.Run.{Run}
 use Rattle.sy_meaning.specs.Words.{Object, as_thing}
@@ -12,7 +11,7 @@ use Rattle.sy_meaning.specs.Frame.{put}
 use Rattle.sy_meaning.specs.Outcomes.{Flowed, St}
 use Rattle.sy_meaning.specs.Bodies.{Body}
 use Rattle.sy_meaning.specs.Next.{bound_all, calls_of, entered, means, means_with, result_of}
-use Rattle.sy_meaning.specs.Turns.{ExLeads, ExpLeads, LeadsOn, StLeads, Taken, expression, flow_stop, statement, stop_of}
+use Rattle.sy_meaning.specs.Turns.{ExLeads, ExpLeads, Fed, LeadsOn, StLeads, Taken, expression, feed_of, flow_stop, statement, stop_of}
 use Rattle.sy_meaning.proofs.OutcomeLemmas.{after, at_last, same}
 use Rattle.sy_meaning.proofs.RunLemmas.{CallsLead}
 use Rattle.sy_meaning.proofs.TreeLemmas.{block_leads, statement_leads, typed_leads}
@@ -22,7 +21,7 @@ bound_leads [] os r = same
 bound_leads (x ∷ xs) [] r = same
 bound_leads (x ∷ xs) (o ∷ os) r = bound_leads xs os (put x.number (as_thing x.what o) r)
 
-result_leads : {xs : List Answer} {n : ℕ} (k : Option Kind) (frame : List Object) (a : Flowed) → Taken xs n (flow_stop a.0) a.1.world.feed a.1.world.turns → Taken xs n (stop_of (result_of k frame a).0) (result_of k frame a).1.world.feed (result_of k frame a).1.world.turns
+result_leads : {xs : Fed} {n : ℕ} (k : Option Kind) (frame : List Object) (a : Flowed) → Taken xs n (flow_stop a.0) (feed_of a.1.world) a.1.world.turns → Taken xs n (stop_of (result_of k frame a).0) (feed_of (result_of k frame a).1.world) (result_of k frame a).1.world.turns
 result_leads {xs} {n} k frame (flow.Returned o line, r) p = p
 result_leads {xs} {n} k frame (flow.Threw e line, r) p = p
 result_leads {xs} {n} k frame (flow.Stopped a, r) p = p

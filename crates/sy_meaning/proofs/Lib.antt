@@ -22,3 +22,11 @@ mod LoopLemmas
 mod TurnLemmas
 mod AskLemmas
 mod PhaseLemmas
+mod AlikeLemmas
+mod AlikeMakingLemmas
+mod AlikeRunLemmas
+mod AlikeStatementLemmas
+mod AlikeFormLemmas
+mod AlikeTreeLemmas
+mod AlikeBodyLemmas
+mod AskTogetherLemmas

@@ -14,7 +14,6 @@ use Rattle.sy_typed.specs.declared.things.Thing.{Thing}
 use Rattle.sy_typed.specs.declared.things.Thing.TheVariants as thing
 use Rattle.sy_typed.specs.declared.tree.TypedCapture.{TypedCapture}
 use Rattle.sy_typed.specs.declared.tree.TypedCapture.TheVariants as capture
-use Rattle.sy_work.specs.declared.asks.Answer.{Answer}
 use Rattle.sy_meaning.specs.declared.outcomes.Evaluated.{Evaluated}
 use Rattle.sy_meaning.specs.declared.outcomes.Evaluated.TheVariants.{Gives, Stopped, Threw}
 use Rattle.sy_meaning.specs.declared.outcomes.Flow.{Flow}
@@ -34,53 +33,53 @@ use Rattle.sy_meaning.specs.Locations.{load, store}
 use Rattle.sy_meaning.specs.Combining.{combines}
 use Rattle.sy_meaning.specs.Expressions.{Calls, Exp, Lambda, assigned, assignment, binary, call, cast, conditional, full, indexed, located, logical_and, logical_or, postfix_step, prefix_step, reduction_assigned, reference, run_of, strict, subscript, unary}
 use Rattle.sy_meaning.specs.Lambdas.{captured, captures_of, emplace_back, in_group, spawn, submit, submitted}
-use Rattle.sy_meaning.specs.Turns.{ExLeads, ExpLeads, Leads, StLeads, Taken, flow_stop, list_stop, reply_stop, stop_of}
+use Rattle.sy_meaning.specs.Turns.{ExLeads, ExpLeads, Fed, Leads, StLeads, Taken, feed_of, flow_stop, list_stop, reply_stop, stop_of}
 use Rattle.sy_meaning.proofs.OutcomeLemmas.{AllLead, after, asking, at_last, chosen_run, computing, each_leads, goes, halted, listed, same, spending}
 use Rattle.sy_meaning.proofs.MakingLemmas.{index_leads, read_area_leads, read_element_leads, sent_leads, spawned_leads, write_area_leads, write_element_leads}
 
 -- ---- ends
 
-then_end_leads : {xs : List Answer} {n : ℕ} (a : Ended) (go : World → Ended) → Taken xs n a.0 a.1.feed a.1.turns → ((w : World) → Taken w.feed w.turns (go w).0 (go w).1.feed (go w).1.turns) → Taken xs n (then_end a go).0 (then_end a go).1.feed (then_end a go).1.turns
+then_end_leads : {xs : Fed} {n : ℕ} (a : Ended) (go : World → Ended) → Taken xs n a.0 (feed_of a.1) a.1.turns → ((w : World) → Taken (feed_of w) w.turns (go w).0 (feed_of (go w).1) (go w).1.turns) → Taken xs n (then_end a go).0 (feed_of (then_end a go).1) (then_end a go).1.turns
 then_end_leads {xs} {n} (None, w) go p q = after p (q w)
 then_end_leads {xs} {n} (Some a, w) go p q = p
 
-after_end_leads : {xs : List Answer} {n : ℕ} (a : Replied) (go : List ℤ → World → World) → Taken xs n (reply_stop a.0) a.1.feed a.1.turns → ((zs : List ℤ) (w : World) → Leads w (go zs w)) → Taken xs n (after_end a go).0 (after_end a go).1.feed (after_end a go).1.turns
+after_end_leads : {xs : Fed} {n : ℕ} (a : Replied) (go : List ℤ → World → World) → Taken xs n (reply_stop a.0) (feed_of a.1) a.1.turns → ((zs : List ℤ) (w : World) → Leads w (go zs w)) → Taken xs n (after_end a go).0 (feed_of (after_end a go).1) (after_end a go).1.turns
 after_end_leads {xs} {n} (reply.Answered a, w) go p q = after p (q _ w)
 after_end_leads {xs} {n} (reply.Stopped a, w) go p q = p
 
-chosen_end : {xs : List Answer} {n : ℕ} (c : Bool) (a b : Ended) → Taken xs n a.0 a.1.feed a.1.turns → Taken xs n b.0 b.1.feed b.1.turns → Taken xs n (if c then a else b).0 (if c then a else b).1.feed (if c then a else b).1.turns
+chosen_end : {xs : Fed} {n : ℕ} (c : Bool) (a b : Ended) → Taken xs n a.0 (feed_of a.1) a.1.turns → Taken xs n b.0 (feed_of b.1) b.1.turns → Taken xs n (if c then a else b).0 (feed_of (if c then a else b).1) (if c then a else b).1.turns
 chosen_end {xs} {n} true a b p q = p
 chosen_end {xs} {n} false a b p q = q
 
-end_one_leads : (line : ℕ) (x : Live) (w : World) → Taken w.feed w.turns (end_one line x w).0 (end_one line x w).1.feed (end_one line x w).1.turns
+end_one_leads : (line : ℕ) (x : Live) (w : World) → Taken (feed_of w) w.turns (end_one line x w).0 (feed_of (end_one line x w).1) (end_one line x w).1.turns
 end_one_leads line (live.Row v) w = same
 end_one_leads line (live.Team v) w = search (chosen_end, same, halted)
 end_one_leads line (live.Thread t) w = search (chosen_end, same, halted)
 end_one_leads line (live.Buffer b) w = search (after_end_leads, asking, same)
 end_one_leads line (live.Access k) w = search (after_end_leads, asking, same)
 
-end_each_leads : (line : ℕ) (xs : List Live) (w : World) → Taken w.feed w.turns (end_each line xs w).0 (end_each line xs w).1.feed (end_each line xs w).1.turns
+end_each_leads : (line : ℕ) (xs : List Live) (w : World) → Taken (feed_of w) w.turns (end_each line xs w).0 (feed_of (end_each line xs w).1) (end_each line xs w).1.turns
 end_each_leads line [] w = same
 end_each_leads line (x ∷ xs) w =
     then_end_leads (end_one line x (with_living xs w)) (end_each line xs) (end_one_leads line x (with_living xs w)) (end_each_leads line xs)
 
-end_scope_leads : (line : ℕ) (w : World) → Taken w.feed w.turns (end_scope line w).0 (end_scope line w).1.feed (end_scope line w).1.turns
+end_scope_leads : (line : ℕ) (w : World) → Taken (feed_of w) w.turns (end_scope line w).0 (feed_of (end_scope line w).1) (end_scope line w).1.turns
 end_scope_leads line w = search end_each_leads
 
-ended_value_leads : {xs : List Answer} {n : ℕ} (v : Evaluated) (r : Run) (e : Ended) → stop_of v ≡ None → Taken xs n e.0 e.1.feed e.1.turns → Taken xs n (stop_of (ended_value v r e).0) (ended_value v r e).1.world.feed (ended_value v r e).1.world.turns
-ended_value_leads {xs} {n} v r (None, w) z p = subst (λ s. Taken xs n s w.feed w.turns) (sym z) p
+ended_value_leads : {xs : Fed} {n : ℕ} (v : Evaluated) (r : Run) (e : Ended) → stop_of v ≡ None → Taken xs n e.0 (feed_of e.1) e.1.turns → Taken xs n (stop_of (ended_value v r e).0) (feed_of (ended_value v r e).1.world) (ended_value v r e).1.world.turns
+ended_value_leads {xs} {n} v r (None, w) z p = subst (λ s. Taken xs n s (feed_of w) w.turns) (sym z) p
 ended_value_leads {xs} {n} v r (Some a, w) z p = p
 
-ended_flow_leads : {xs : List Answer} {n : ℕ} (f : Flow) (r : Run) (e : Ended) → flow_stop f ≡ None → Taken xs n e.0 e.1.feed e.1.turns → Taken xs n (flow_stop (ended_flow f r e).0) (ended_flow f r e).1.world.feed (ended_flow f r e).1.world.turns
-ended_flow_leads {xs} {n} v r (None, w) z p = subst (λ s. Taken xs n s w.feed w.turns) (sym z) p
+ended_flow_leads : {xs : Fed} {n : ℕ} (f : Flow) (r : Run) (e : Ended) → flow_stop f ≡ None → Taken xs n e.0 (feed_of e.1) e.1.turns → Taken xs n (flow_stop (ended_flow f r e).0) (feed_of (ended_flow f r e).1.world) (ended_flow f r e).1.world.turns
+ended_flow_leads {xs} {n} v r (None, w) z p = subst (λ s. Taken xs n s (feed_of w) w.turns) (sym z) p
 ended_flow_leads {xs} {n} v r (Some a, w) z p = p
 
-close_value_leads : {xs : List Answer} {n : ℕ} (line : ℕ) (a : Valued) → Taken xs n (stop_of a.0) a.1.world.feed a.1.world.turns → Taken xs n (stop_of (close_value line a).0) (close_value line a).1.world.feed (close_value line a).1.world.turns
+close_value_leads : {xs : Fed} {n : ℕ} (line : ℕ) (a : Valued) → Taken xs n (stop_of a.0) (feed_of a.1.world) a.1.world.turns → Taken xs n (stop_of (close_value line a).0) (feed_of (close_value line a).1.world) (close_value line a).1.world.turns
 close_value_leads {xs} {n} line (Gives o, r) p = after p (ended_value_leads (Gives o) r (end_scope line r.world) refl (end_scope_leads line r.world))
 close_value_leads {xs} {n} line (Threw e l, r) p = after p (ended_value_leads (Threw e l) r (end_scope l r.world) refl (end_scope_leads l r.world))
 close_value_leads {xs} {n} line (Stopped a, r) p = p
 
-close_flow_leads : {xs : List Answer} {n : ℕ} (line : ℕ) (a : Flowed) → Taken xs n (flow_stop a.0) a.1.world.feed a.1.world.turns → Taken xs n (flow_stop (close_flow line a).0) (close_flow line a).1.world.feed (close_flow line a).1.world.turns
+close_flow_leads : {xs : Fed} {n : ℕ} (line : ℕ) (a : Flowed) → Taken xs n (flow_stop a.0) (feed_of a.1.world) a.1.world.turns → Taken xs n (flow_stop (close_flow line a).0) (feed_of (close_flow line a).1.world) (close_flow line a).1.world.turns
 close_flow_leads {xs} {n} line (flow.Normal, r) p = after p (ended_flow_leads flow.Normal r (end_scope line r.world) refl (end_scope_leads line r.world))
 close_flow_leads {xs} {n} line (flow.Broke l, r) p = after p (ended_flow_leads (flow.Broke l) r (end_scope l r.world) refl (end_scope_leads l r.world))
 close_flow_leads {xs} {n} line (flow.Continued l, r) p = after p (ended_flow_leads (flow.Continued l) r (end_scope l r.world) refl (end_scope_leads l r.world))
@@ -188,11 +187,11 @@ subscript_leads line a i p q r = let x = p.1 in let y = q.1 in search (parts, in
 abbrev pub CallsLead : Calls → Type 0
 CallsLead calls = (f : ℕ) (os : List Object) → ExLeads (calls f os)
 
-entered_by_turn : (line : ℕ) (go : Ex) → ExLeads go → (r : Run) (b : Bool) → Taken r.world.feed r.world.turns (stop_of (on_turn line r (if b then (false, r.world) else (true, record (r.world) { turns = r.world.turns - 1 })) go).0) (on_turn line r (if b then (false, r.world) else (true, record (r.world) { turns = r.world.turns - 1 })) go).1.world.feed (on_turn line r (if b then (false, r.world) else (true, record (r.world) { turns = r.world.turns - 1 })) go).1.world.turns
+entered_by_turn : (line : ℕ) (go : Ex) → ExLeads go → (r : Run) (b : Bool) → Taken (feed_of r.world) r.world.turns (stop_of (on_turn line r (if b then (false, r.world) else (true, record (r.world) { turns = r.world.turns - 1 })) go).0) (feed_of (on_turn line r (if b then (false, r.world) else (true, record (r.world) { turns = r.world.turns - 1 })) go).1.world) (on_turn line r (if b then (false, r.world) else (true, record (r.world) { turns = r.world.turns - 1 })) go).1.world.turns
 entered_by_turn line go h r true = at_last line r.world
 entered_by_turn line go h r false = after (spending r.world.turns) (h (record r { world = record (r.world) { turns = r.world.turns - 1 } }))
 
-pub on_turn_leads : (line : ℕ) (go : Ex) → ExLeads go → (r : Run) → Taken r.world.feed r.world.turns (stop_of (on_turn line r (turn r.world) go).0) (on_turn line r (turn r.world) go).1.world.feed (on_turn line r (turn r.world) go).1.world.turns
+pub on_turn_leads : (line : ℕ) (go : Ex) → ExLeads go → (r : Run) → Taken (feed_of r.world) r.world.turns (stop_of (on_turn line r (turn r.world) go).0) (feed_of (on_turn line r (turn r.world) go).1.world) (on_turn line r (turn r.world) go).1.world.turns
 on_turn_leads line go h r = entered_by_turn line go h r (r.world.turns == 0)
 
 pub call_leads : (calls : Calls) → CallsLead calls → (line f : ℕ) (es : List Exp) → AllExps es → ExLeads (call calls line f es)
@@ -210,7 +209,7 @@ all_captured : (line : ℕ) (cs : List TypedCapture) → AllLead (map (captured 
 all_captured line [] = tt
 all_captured line (c ∷ cs) = (captured_leads line c, all_captured line cs)
 
-pub captures_lead : (l : Lambda) (r : Run) → Taken r.world.feed r.world.turns (list_stop (captures_of l r).0) (captures_of l r).2.world.feed (captures_of l r).2.world.turns
+pub captures_lead : (l : Lambda) (r : Run) → Taken (feed_of r.world) r.world.turns (list_stop (captures_of l r).0) (feed_of (captures_of l r).2.world) (captures_of l r).2.world.turns
 captures_lead l r = each_leads (map (captured l.spot.line) l.captures) (all_captured l.spot.line l.captures) r
 
 pub spawn_leads : (line : ℕ) (l : Lambda) → ExLeads (spawn line l)
@@ -219,7 +218,7 @@ spawn_leads line l r = search (parts, captures_lead, spawned_leads)
 pub emplace_leads : (line : ℕ) (l : Lambda) (o : Object) → ExLeads (emplace_back line l o)
 emplace_leads line l o r = search (parts, spawn_leads)
 
-submitted_leads : {xs : List Answer} {n : ℕ} (line q : ℕ) (a : Flowed) → Taken xs n (flow_stop a.0) a.1.world.feed a.1.world.turns → Taken xs n (stop_of (submitted line q a).0) (submitted line q a).1.world.feed (submitted line q a).1.world.turns
+submitted_leads : {xs : Fed} {n : ℕ} (line q : ℕ) (a : Flowed) → Taken xs n (flow_stop a.0) (feed_of a.1.world) a.1.world.turns → Taken xs n (stop_of (submitted line q a).0) (feed_of (submitted line q a).1.world) (submitted line q a).1.world.turns
 submitted_leads {xs} {n} line q (flow.Threw e l, r) p = p
 submitted_leads {xs} {n} line q (flow.Stopped a, r) p = p
 submitted_leads {xs} {n} line q (f, r) p = after p (sent_leads line q (group_of r.world) (group_of r.world).command (no_longer r.world))

@@ -6,7 +6,6 @@ use Rattle.sy_typed.specs.declared.things.Thing.TheVariants as thing
 use Rattle.sy_typed.specs.declared.tree.Variable.{Variable}
 use Rattle.sy_tree.specs.declared.parts.Brackets.{Brackets}
 use Rattle.sy_tree.specs.declared.parts.Brackets.TheVariants as brackets
-use Rattle.sy_work.specs.declared.asks.Answer.{Answer}
 use Rattle.sy_meaning.specs.declared.outcomes.Evaluated.TheVariants.{Gives, Stopped, Threw}
 use Rattle.sy_meaning.specs.declared.outcomes.Flow.TheVariants as flow
 use Rattle.sy_meaning.specs.declared.runs.Run.{Run}
@@ -16,18 +15,18 @@ use Rattle.sy_meaning.specs.Outcomes.{Ex, Flowed, St, Valued, each, then_do}
 use Rattle.sy_meaning.specs.Ends.{in_scope}
 use Rattle.sy_meaning.specs.Expressions.{Argument, Exp, Lambda, braced, full, lambda, run_of, value}
 use Rattle.sy_meaning.specs.Library.{size_of}
-use Rattle.sy_meaning.specs.Making.{Given}
-use Rattle.sy_meaning.specs.Statements.{Again, Initializer, Printing, Statement, absorbed, after_body, again, any_makes, argument_run, arguments_last, bound, caught, choose, copied, declare_object, declare_team, declare_thread, declare_value, declare_vector, declare_zero, declared, direct, discarded, do_loop, do_once, each_element, element, error_object, for_element, for_loop, for_once, given, loop, lowered, made_object, made_of, made_vector, on_round, print_all, print_operand, printing_run, raised, range_for, returned, round, rounds, scoped, scoped_or_nothing, step_of, test_of, tested, try_block, turned, vector_of, while_loop, while_once, with_all, with_arguments}
-use Rattle.sy_meaning.specs.Turns.{ExLeads, ExpLeads, MaybeExp, MaybeStatement, StLeads, Taken, flow_stop, round_stop, stop_of}
+use Rattle.sy_meaning.specs.Making.{Given, live_of}
+use Rattle.sy_meaning.specs.Statements.{Again, End, Initializer, Printing, Statement, absorbed, after_body, again, any_makes, argument_run, arguments_last, bound, caught, choose, copied, declare_object, declare_team, declare_thread, declare_value, declare_vector, declare_zero, declared, direct, discarded, do_loop, do_once, each_element, element, error_object, for_element, for_loop, for_once, given, loop, lowered, made_object, made_of, made_vector, no_end, on_round, print_all, print_operand, printing_run, raised, range_for, returned, round, rounds, row_end, scoped, scoped_or_nothing, step_of, test_of, tested, try_block, turned, vector_of, while_loop, while_once, with_all, with_arguments}
+use Rattle.sy_meaning.specs.Turns.{ExLeads, ExpLeads, Fed, MaybeExp, MaybeStatement, StLeads, Taken, feed_of, flow_stop, round_stop, stop_of}
 use Rattle.sy_meaning.proofs.OutcomeLemmas.{AllLead, AllLeadOn, after, at_last, does, each_leads, in_turn_leads, listed, same, spending, valued}
-use Rattle.sy_meaning.proofs.MakingLemmas.{kept_leads, make_leads, prints_leads, read_element_leads, team_leads, vector_leads}
+use Rattle.sy_meaning.proofs.MakingLemmas.{kept_leads, make_leads, prints_leads, read_element_leads, vector_leads}
 use Rattle.sy_meaning.proofs.RunLemmas.{AllExps, full_leads, in_full_leads, in_scope_leads, runs_lead, spawn_leads}
 
-chosen_flow : {xs : List Answer} {n : ℕ} (c : Bool) (a b : St) (r : Run) → Taken xs n (flow_stop (a r).0) (a r).1.world.feed (a r).1.world.turns → Taken xs n (flow_stop (b r).0) (b r).1.world.feed (b r).1.world.turns → Taken xs n (flow_stop ((if c then a else b) r).0) ((if c then a else b) r).1.world.feed ((if c then a else b) r).1.world.turns
+chosen_flow : {xs : Fed} {n : ℕ} (c : Bool) (a b : St) (r : Run) → Taken xs n (flow_stop (a r).0) (feed_of (a r).1.world) (a r).1.world.turns → Taken xs n (flow_stop (b r).0) (feed_of (b r).1.world) (b r).1.world.turns → Taken xs n (flow_stop ((if c then a else b) r).0) (feed_of ((if c then a else b) r).1.world) ((if c then a else b) r).1.world.turns
 chosen_flow {xs} {n} true a b r p q = p
 chosen_flow {xs} {n} false a b r p q = q
 
-chosen_round : {xs : List Answer} {n : ℕ} (c : Bool) (a b : Again) → Taken xs n (round_stop a.0) a.1.world.feed a.1.world.turns → Taken xs n (round_stop b.0) b.1.world.feed b.1.world.turns → Taken xs n (round_stop (if c then a else b).0) (if c then a else b).1.world.feed (if c then a else b).1.world.turns
+chosen_round : {xs : Fed} {n : ℕ} (c : Bool) (a b : Again) → Taken xs n (round_stop a.0) (feed_of a.1.world) a.1.world.turns → Taken xs n (round_stop b.0) (feed_of b.1.world) b.1.world.turns → Taken xs n (round_stop (if c then a else b).0) (feed_of (if c then a else b).1.world) (if c then a else b).1.world.turns
 chosen_round {xs} {n} true a b p q = p
 chosen_round {xs} {n} false a b p q = q
 
@@ -56,27 +55,27 @@ choose_leads c a b h p q r =
 
 -- what a round comes to leads on from what was there before it
 abbrev pub RoundLeads : (Run → Again) → Type 0
-RoundLeads once = (r : Run) → Taken r.world.feed r.world.turns (round_stop (once r).0) (once r).1.world.feed (once r).1.world.turns
+RoundLeads once = (r : Run) → Taken (feed_of r.world) r.world.turns (round_stop (once r).0) (feed_of (once r).1.world) (once r).1.world.turns
 
-again_leads : {xs : List Answer} {n : ℕ} (a : Again) (go : St) → Taken xs n (round_stop a.0) a.1.world.feed a.1.world.turns → StLeads go → Taken xs n (flow_stop (again a go).0) (again a go).1.world.feed (again a go).1.world.turns
+again_leads : {xs : Fed} {n : ℕ} (a : Again) (go : St) → Taken xs n (round_stop a.0) (feed_of a.1.world) a.1.world.turns → StLeads go → Taken xs n (flow_stop (again a go).0) (feed_of (again a go).1.world) (again a go).1.world.turns
 again_leads {xs} {n} (None, r) go p q = after p (q r)
 again_leads {xs} {n} (Some f, r) go p q = p
 
-pub tested_leads : {xs : List Answer} {n : ℕ} (a : Valued) (go : Run → Again) → Taken xs n (stop_of a.0) a.1.world.feed a.1.world.turns → RoundLeads go → Taken xs n (round_stop (tested a go).0) (tested a go).1.world.feed (tested a go).1.world.turns
+pub tested_leads : {xs : Fed} {n : ℕ} (a : Valued) (go : Run → Again) → Taken xs n (stop_of a.0) (feed_of a.1.world) a.1.world.turns → RoundLeads go → Taken xs n (round_stop (tested a go).0) (feed_of (tested a go).1.world) (tested a go).1.world.turns
 tested_leads {xs} {n} (Gives v, r) go p q = chosen_round (is_zero v) (Some flow.Normal, r) (go r) p (after p (q r))
 tested_leads {xs} {n} (Threw e l, r) go p q = p
 tested_leads {xs} {n} (Stopped a, r) go p q = p
 
-pub after_body_leads : {xs : List Answer} {n : ℕ} (a : Flowed) → Taken xs n (flow_stop a.0) a.1.world.feed a.1.world.turns → Taken xs n (round_stop (after_body a).0) (after_body a).1.world.feed (after_body a).1.world.turns
+pub after_body_leads : {xs : Fed} {n : ℕ} (a : Flowed) → Taken xs n (flow_stop a.0) (feed_of a.1.world) a.1.world.turns → Taken xs n (round_stop (after_body a).0) (feed_of (after_body a).1.world) (after_body a).1.world.turns
 after_body_leads {xs} {n} (flow.Normal, r) p = p
 after_body_leads {xs} {n} (flow.Continued l, r) p = p
 after_body_leads {xs} {n} (f, r) p = p
 
-on_round_leads : {xs : List Answer} {n : ℕ} (a : Again) (go : Run → Again) → Taken xs n (round_stop a.0) a.1.world.feed a.1.world.turns → RoundLeads go → Taken xs n (round_stop (on_round a go).0) (on_round a go).1.world.feed (on_round a go).1.world.turns
+on_round_leads : {xs : Fed} {n : ℕ} (a : Again) (go : Run → Again) → Taken xs n (round_stop a.0) (feed_of a.1.world) a.1.world.turns → RoundLeads go → Taken xs n (round_stop (on_round a go).0) (feed_of (on_round a go).1.world) (on_round a go).1.world.turns
 on_round_leads {xs} {n} (None, r) go p q = after p (q r)
 on_round_leads {xs} {n} (Some f, r) go p q = p
 
-turned_leads : (line : ℕ) (b : St) → StLeads b → (r : Run) (c : Bool) → Taken r.world.feed r.world.turns (round_stop (turned line r (if c then (false, r.world) else (true, record (r.world) { turns = r.world.turns - 1 })) b).0) (turned line r (if c then (false, r.world) else (true, record (r.world) { turns = r.world.turns - 1 })) b).1.world.feed (turned line r (if c then (false, r.world) else (true, record (r.world) { turns = r.world.turns - 1 })) b).1.world.turns
+turned_leads : (line : ℕ) (b : St) → StLeads b → (r : Run) (c : Bool) → Taken (feed_of r.world) r.world.turns (round_stop (turned line r (if c then (false, r.world) else (true, record (r.world) { turns = r.world.turns - 1 })) b).0) (feed_of (turned line r (if c then (false, r.world) else (true, record (r.world) { turns = r.world.turns - 1 })) b).1.world) (turned line r (if c then (false, r.world) else (true, record (r.world) { turns = r.world.turns - 1 })) b).1.world.turns
 turned_leads line b h r true = at_last line r.world
 turned_leads line b h r false =
     let s : Run = record r { world = record (r.world) { turns = r.world.turns - 1 } } in
@@ -85,7 +84,7 @@ turned_leads line b h r false =
 pub round_leads : (line : ℕ) (b : St) → StLeads b → RoundLeads (round line b)
 round_leads line b h r = turned_leads line b h r (r.world.turns == 0)
 
-test_of_leads : (c : Option Exp) → MaybeExp c → (r : Run) (go : Run → Again) → RoundLeads go → Taken r.world.feed r.world.turns (round_stop (test_of c r go).0) (test_of c r go).1.world.feed (test_of c r go).1.world.turns
+test_of_leads : (c : Option Exp) → MaybeExp c → (r : Run) (go : Run → Again) → RoundLeads go → Taken (feed_of r.world) r.world.turns (round_stop (test_of c r go).0) (feed_of (test_of c r go).1.world) (test_of c r go).1.world.turns
 test_of_leads None h r go p = p r
 test_of_leads (Some c) h r go p = tested_leads (full c r) go (full_leads c h r) p
 
@@ -107,7 +106,7 @@ rounds_lead (suc n) once h r = again_leads (once r) (rounds n once) (h r) (round
 loop_leads : (once : Run → Again) → RoundLeads once → StLeads (loop once)
 loop_leads once h r = rounds_lead (r.world.turns + 1) once h r
 
-absorbed_leads : {xs : List Answer} {n : ℕ} (a : Flowed) → Taken xs n (flow_stop a.0) a.1.world.feed a.1.world.turns → Taken xs n (flow_stop (absorbed a).0) (absorbed a).1.world.feed (absorbed a).1.world.turns
+absorbed_leads : {xs : Fed} {n : ℕ} (a : Flowed) → Taken xs n (flow_stop a.0) (feed_of a.1.world) a.1.world.turns → Taken xs n (flow_stop (absorbed a).0) (feed_of (absorbed a).1.world) (absorbed a).1.world.turns
 absorbed_leads {xs} {n} (flow.Broke l, r) p = p
 absorbed_leads {xs} {n} (f, r) p = p
 
@@ -194,8 +193,8 @@ with_arguments_leads xs go h p r =
 
 -- ---- declarations
 
-declared_leads : {xs : List Answer} {n : ℕ} (x : Variable) (a : Valued) → Taken xs n (stop_of a.0) a.1.world.feed a.1.world.turns → Taken xs n (flow_stop (declared x a).0) (declared x a).1.world.feed (declared x a).1.world.turns
-declared_leads {xs} {n} x a p = search (valued, kept_leads, p)
+declared_leads : {xs : Fed} {n : ℕ} (x : Variable) (end : End) (a : Valued) → Taken xs n (stop_of a.0) (feed_of a.1.world) a.1.world.turns → Taken xs n (flow_stop (declared x end a).0) (feed_of (declared x end a).1.world) (declared x end a).1.world.turns
+declared_leads {xs} {n} x end a p = search (valued, kept_leads, p)
 
 with_all_leads : (line : ℕ) (xs : List Argument) (go : List Given → Ex) → AllArguments xs → ((ys : List Given) → ExLeads (go ys)) → ExLeads (with_all line xs go)
 with_all_leads line xs go h p = in_full_leads (any_makes xs) (arguments_last line xs) (with_arguments xs go) (with_arguments_leads xs go h p)
@@ -225,26 +224,26 @@ made_vector_leads x (Some (copied e)) h r = let p = vector_of_leads x brackets.P
 made_vector_leads x (Some (direct b xs)) h r = vector_of_leads x b xs h r
 
 pub declare_zero_leads : (x : Variable) → StLeads (declare_zero x)
-declare_zero_leads x r = search (declared_leads, same)
+declare_zero_leads x r = same
 
 pub declare_value_leads : (x : Variable) (e : Exp) → ExpLeads e → StLeads (declare_value x e)
-declare_value_leads x e h r = declared_leads x (full e r) (full_leads e h r)
+declare_value_leads x e h r = declared_leads x no_end (full e r) (full_leads e h r)
 
 pub declare_object_leads : (x : Variable) (i : Option Initializer) → MaybeInitializer i → StLeads (declare_object x i)
-declare_object_leads x i h r = declared_leads x (made_object x i r) (made_object_leads x i h r)
+declare_object_leads x i h r = declared_leads x (live_of x.what) (made_object x i r) (made_object_leads x i h r)
 
 pub declare_vector_leads : (x : Variable) (i : Option Initializer) → MaybeInitializer i → StLeads (declare_vector x i)
-declare_vector_leads x i h r = declared_leads x (made_vector x i r) (made_vector_leads x i h r)
+declare_vector_leads x i h r = declared_leads x row_end (made_vector x i r) (made_vector_leads x i h r)
 
 pub declare_team_leads : (x : Variable) → StLeads (declare_team x)
-declare_team_leads x r = search (declared_leads, team_leads)
+declare_team_leads x r = same
 
 pub declare_thread_leads : (x : Variable) (l : Lambda) → StLeads (declare_thread x l)
 declare_thread_leads x l r = search (declared_leads, spawn_leads)
 
 -- ---- errors
 
-caught_leads : {xs : List Answer} {n : ℕ} (x : Variable) (handler : St) → StLeads handler → (a : Flowed) → Taken xs n (flow_stop a.0) a.1.world.feed a.1.world.turns → Taken xs n (flow_stop (caught x handler a).0) (caught x handler a).1.world.feed (caught x handler a).1.world.turns
+caught_leads : {xs : Fed} {n : ℕ} (x : Variable) (handler : St) → StLeads handler → (a : Flowed) → Taken xs n (flow_stop a.0) (feed_of a.1.world) a.1.world.turns → Taken xs n (flow_stop (caught x handler a).0) (feed_of (caught x handler a).1.world) (caught x handler a).1.world.turns
 caught_leads {xs} {n} x handler h (flow.Threw e l, r) p = after p (h (put x.number (error_object e) (lowered r)))
 caught_leads {xs} {n} x handler h (f, r) p = p
 

@@ -81,37 +81,37 @@ member_call_leads calls limit None q a m line xs h p r = called_member_leads m l
 -- ---- the tree
 
 module _ (calls : Calls) (limit : ℕ) where
-  abbrev argument_of : TypedArgument → Argument
+  abbrev pub argument_of : TypedArgument → Argument
   argument_of = fold-TypedArgument Argument Statement St Statement Initializer Node Printing Statement Exp Block Lambda (argument_step calls limit) (declaration_step calls limit) (declarator_step calls limit) (full_step calls limit) (initializer_step calls limit) (node_step calls limit) (printed_step calls limit) (stmt_step calls limit) (typed_step calls limit) (block_step calls limit) (lambda_step calls limit)
 
-  abbrev declaration_of : TypedDeclaration → Statement
+  abbrev pub declaration_of : TypedDeclaration → Statement
   declaration_of = fold-TypedDeclaration Argument Statement St Statement Initializer Node Printing Statement Exp Block Lambda (argument_step calls limit) (declaration_step calls limit) (declarator_step calls limit) (full_step calls limit) (initializer_step calls limit) (node_step calls limit) (printed_step calls limit) (stmt_step calls limit) (typed_step calls limit) (block_step calls limit) (lambda_step calls limit)
 
-  abbrev declarator_of : TypedDeclarator → St
+  abbrev pub declarator_of : TypedDeclarator → St
   declarator_of = fold-TypedDeclarator Argument Statement St Statement Initializer Node Printing Statement Exp Block Lambda (argument_step calls limit) (declaration_step calls limit) (declarator_step calls limit) (full_step calls limit) (initializer_step calls limit) (node_step calls limit) (printed_step calls limit) (stmt_step calls limit) (typed_step calls limit) (block_step calls limit) (lambda_step calls limit)
 
-  abbrev full_of : TypedFull → Statement
+  abbrev pub full_of : TypedFull → Statement
   full_of = fold-TypedFull Argument Statement St Statement Initializer Node Printing Statement Exp Block Lambda (argument_step calls limit) (declaration_step calls limit) (declarator_step calls limit) (full_step calls limit) (initializer_step calls limit) (node_step calls limit) (printed_step calls limit) (stmt_step calls limit) (typed_step calls limit) (block_step calls limit) (lambda_step calls limit)
 
-  abbrev initializer_of : TypedInitializer → Initializer
+  abbrev pub initializer_of : TypedInitializer → Initializer
   initializer_of = fold-TypedInitializer Argument Statement St Statement Initializer Node Printing Statement Exp Block Lambda (argument_step calls limit) (declaration_step calls limit) (declarator_step calls limit) (full_step calls limit) (initializer_step calls limit) (node_step calls limit) (printed_step calls limit) (stmt_step calls limit) (typed_step calls limit) (block_step calls limit) (lambda_step calls limit)
 
-  abbrev node_of : TypedNode → Node
+  abbrev pub node_of : TypedNode → Node
   node_of = fold-TypedNode Argument Statement St Statement Initializer Node Printing Statement Exp Block Lambda (argument_step calls limit) (declaration_step calls limit) (declarator_step calls limit) (full_step calls limit) (initializer_step calls limit) (node_step calls limit) (printed_step calls limit) (stmt_step calls limit) (typed_step calls limit) (block_step calls limit) (lambda_step calls limit)
 
-  abbrev printed_of : TypedPrinted → Printing
+  abbrev pub printed_of : TypedPrinted → Printing
   printed_of = fold-TypedPrinted Argument Statement St Statement Initializer Node Printing Statement Exp Block Lambda (argument_step calls limit) (declaration_step calls limit) (declarator_step calls limit) (full_step calls limit) (initializer_step calls limit) (node_step calls limit) (printed_step calls limit) (stmt_step calls limit) (typed_step calls limit) (block_step calls limit) (lambda_step calls limit)
 
-  abbrev statement_of : TypedStmt → Statement
+  abbrev pub statement_of : TypedStmt → Statement
   statement_of = fold-TypedStmt Argument Statement St Statement Initializer Node Printing Statement Exp Block Lambda (argument_step calls limit) (declaration_step calls limit) (declarator_step calls limit) (full_step calls limit) (initializer_step calls limit) (node_step calls limit) (printed_step calls limit) (stmt_step calls limit) (typed_step calls limit) (block_step calls limit) (lambda_step calls limit)
 
-  abbrev typed_of : Typed → Exp
+  abbrev pub typed_of : Typed → Exp
   typed_of = fold-Typed Argument Statement St Statement Initializer Node Printing Statement Exp Block Lambda (argument_step calls limit) (declaration_step calls limit) (declarator_step calls limit) (full_step calls limit) (initializer_step calls limit) (node_step calls limit) (printed_step calls limit) (stmt_step calls limit) (typed_step calls limit) (block_step calls limit) (lambda_step calls limit)
 
-  abbrev block_of : TypedBlock → Block
+  abbrev pub block_of : TypedBlock → Block
   block_of = fold-TypedBlock Argument Statement St Statement Initializer Node Printing Statement Exp Block Lambda (argument_step calls limit) (declaration_step calls limit) (declarator_step calls limit) (full_step calls limit) (initializer_step calls limit) (node_step calls limit) (printed_step calls limit) (stmt_step calls limit) (typed_step calls limit) (block_step calls limit) (lambda_step calls limit)
 
-  abbrev lambda_of : TypedLambda → Lambda
+  abbrev pub lambda_of : TypedLambda → Lambda
   lambda_of = fold-TypedLambda Argument Statement St Statement Initializer Node Printing Statement Exp Block Lambda (argument_step calls limit) (declaration_step calls limit) (declarator_step calls limit) (full_step calls limit) (initializer_step calls limit) (node_step calls limit) (printed_step calls limit) (stmt_step calls limit) (typed_step calls limit) (block_step calls limit) (lambda_step calls limit)
 
   abbrev ArgumentClaim : TypedArgument → Type 0
@@ -268,8 +268,8 @@ module _ (calls : Calls) (limit : ℕ) where
 
   printed_shows : (y : TypedPrinted-F AnArgument ADeclaration ADeclarator AFull AnInitializer ANode APrinted AStatement ATyped ABlock ALambda) → StLeads (opened-TypedPrinted y).run
   printed_shows (TypedPrinted-F.Operand s e) r = print_operand_leads s.line (typed_of e.0) e.1 r
-  printed_shows (TypedPrinted-F.Bytes s text) r = discarded_leads (inside (prints s.line text)) (λ q. prints_leads s.line text q.world) r
-  printed_shows (TypedPrinted-F.EndLine s) r = discarded_leads (inside (prints s.line (10 ∷ []))) (λ q. prints_leads s.line (10 ∷ []) q.world) r
+  printed_shows (TypedPrinted-F.Bytes s text last) r = discarded_leads (inside (prints s.line text)) (λ q. prints_leads s.line text q.world) r
+  printed_shows (TypedPrinted-F.EndLine s last) r = discarded_leads (inside (prints s.line (10 ∷ []))) (λ q. prints_leads s.line (10 ∷ []) q.world) r
 
   statement_shows : (y : TypedStmt-F AnArgument ADeclaration ADeclarator AFull AnInitializer ANode APrinted AStatement ATyped ABlock ALambda) → StLeads (opened-TypedStmt y).run
   statement_shows (TypedStmt-F.Compound b) r = b.1 r

@@ -18,3 +18,4 @@ pub mod Programs
 pub mod Orders
 pub mod Captures
 pub mod Turns
+pub mod Asks

@@ -167,10 +167,10 @@ module _ (calls : Calls) (limit : ℕ) where
 
   abbrev pub printed_step : TypedPrinted-F Argument Statement St Statement Initializer Node Printing Statement Exp Block Lambda → Printing
   printed_step (TypedPrinted-F.Operand s e) = record { run = print_operand s.line e; makes = e.makes; last = e.last }
-  printed_step (TypedPrinted-F.Bytes s text) =
-      record { run = discarded (inside (prints s.line text)); makes = false; last = s.line }
-  printed_step (TypedPrinted-F.EndLine s) =
-      record { run = discarded (inside (prints s.line (10 ∷ []))); makes = false; last = s.line }
+  printed_step (TypedPrinted-F.Bytes s text last) =
+      record { run = discarded (inside (prints s.line text)); makes = false; last = last.line }
+  printed_step (TypedPrinted-F.EndLine s last) =
+      record { run = discarded (inside (prints s.line (10 ∷ []))); makes = false; last = last.line }
 
   abbrev pub last_of_if : Statement → Option Statement → ℕ
   last_of_if a None = a.last

@@ -29,6 +29,7 @@ use Rattle.sy_meaning.specs.Expressions.{Calls}
 use Rattle.sy_meaning.specs.Library.{global_id, position}
 use Rattle.sy_meaning.specs.Meaning.{block}
 use Rattle.sy_meaning.specs.Bodies.{Body}
+use Rattle.sy_meaning.specs.Asks.{Log}
 
 -- ---- what a body begins with
 
@@ -89,7 +90,7 @@ no_store = record { cells = [] }
 
 abbrev pub world_at_start : ℕ → List Answer → World
 world_at_start limit answers =
-    record { rows = []; accesses = []; scopes = []; joined = []; tries = 0; group = None; turns = limit; feed = answers; at = None; store = no_store; later = []; steps = [] }
+    record { rows = []; accesses = []; scopes = []; joined = []; tries = 0; group = None; turns = limit; feed = answers; asked = []; at = None; store = no_store; later = []; steps = [] }
 
 abbrev pub start : ℕ → List Answer → Run
 start limit answers = record { frame = []; world = world_at_start limit answers }
@@ -145,13 +146,25 @@ module _ (bodies : List Body) (limit : ℕ) where
   abbrev pub means : Body → St
   means b = means_with (calls_of limit) b
 
+  -- where a body is after these answers
+  abbrev pub stands : Body → List ℤ → List Answer → Flowed
+  stands b captures answers =
+      means b (bound_all b.captures (objects_from b.captures captures) (start limit answers))
+
   abbrev pub next_in : Option Body → List ℤ → List Answer → Ask
   next_in None captures answers = asks.Finish (pos 0)
-  next_in (Some b) captures answers =
-      ask_of b.returned (means b (bound_all b.captures (objects_from b.captures captures) (start limit answers)))
+  next_in (Some b) captures answers = ask_of b.returned (stands b captures answers)
 
   abbrev pub next : NextAsk
   next body captures answers = next_in (slice_get bodies body) captures answers
+
+  abbrev pub asks_in : Option Body → List ℤ → List Answer → Log
+  asks_in None captures answers = []
+  asks_in (Some b) captures answers = (stands b captures answers).1.world.asked
+
+  -- what a body has asked until then, with the answers, the last first
+  abbrev pub asks_before : ℕ → List ℤ → List Answer → Log
+  asks_before body captures answers = asks_in (slice_get bodies body) captures answers
 
   abbrev pub item_run : Body → List ℤ → Run → Run
   item_run b captures r = bound_item b.parameters (bound_all b.captures (objects_from b.captures captures) r)

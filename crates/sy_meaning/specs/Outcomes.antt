@@ -134,10 +134,10 @@ on_turn line r (false, w) go = (Stopped (spent line w), record r { world = w })
 abbrev pub Replied : Type 0
 Replied = Reply × World
 
--- the next of the answers that are left
+-- the next of the answers that are left; what was asked is kept with it
 abbrev pub answered : Ask → List Answer → World → Replied
 answered a [] w = (reply.Stopped a, w)
-answered a (x ∷ rest) w = (reply.Answered x, record w { feed = rest })
+answered a (x ∷ rest) w = (reply.Answered x, record w { feed = rest; asked = (a, x) ∷ w.asked })
 
 abbrev pub asked : ℕ → Ask → Bool × World → Replied
 asked line a (true, w) = answered a w.feed w

@@ -16,6 +16,8 @@ use Rattle.sy_work.specs.declared.asks.Errc.TheVariants as errc
 use Rattle.sy_meaning.specs.declared.outcomes.Evaluated.TheVariants.{Gives, Stopped, Threw}
 use Rattle.sy_meaning.specs.declared.outcomes.Flow.{Flow}
 use Rattle.sy_meaning.specs.declared.outcomes.Flow.TheVariants as flow
+use Rattle.sy_meaning.specs.declared.runs.Live.{Live}
+use Rattle.sy_meaning.specs.declared.runs.Live.TheVariants as live
 use Rattle.sy_meaning.specs.declared.runs.Run.{Run}
 use Rattle.sy_meaning.specs.declared.runs.World.{World}
 use Rattle.sy_meaning.specs.Words.{Object, as_thing, count_of, device_at, device_words, is_zero, kind_in, natural, nothing, number_as, of_naturals, scalar_of, word}
@@ -233,19 +235,35 @@ pub data Initializer : Type 0 where
   copied : Exp → Initializer
   direct : Brackets → List Argument → Initializer
 
--- a declared object is ended with the scope of its declaration
-abbrev pub declared_as : Variable → Object → Run → Run
-declared_as x o r = put x.number (as_thing x.what o) (record r { world = kept (live_of x.what o) r.world })
+-- what has to be ended of what is declared, by its value
+abbrev pub End : Type 0
+End = Object → Option Live
 
-abbrev pub declared : Variable → Valued → Flowed
-declared x made = with_value made (λ o r. (flow.Normal, declared_as x o r))
+abbrev pub no_end : End
+no_end o = None
+
+abbrev pub row_end : End
+row_end o = Some (live.Row (natural 0 o))
+
+abbrev pub team_end : End
+team_end o = Some (live.Team (natural 0 o))
+
+abbrev pub thread_end : End
+thread_end o = Some (live.Thread (natural 0 o))
+
+-- it is ended with the scope of its declaration
+abbrev pub declared_as : Variable → Option Live → Object → Run → Run
+declared_as x l o r = put x.number (as_thing x.what o) (record r { world = kept l r.world })
+
+abbrev pub declared : Variable → End → Valued → Flowed
+declared x end made = with_value made (λ o r. (flow.Normal, declared_as x (end o) o r))
 
 -- an integer without an initializer is 0
 abbrev pub declare_zero : Variable → St
-declare_zero x r = declared x (gives (pos 0 ∷ []) r)
+declare_zero x r = declared x no_end (gives (pos 0 ∷ []) r)
 
 abbrev pub declare_value : Variable → Exp → St
-declare_value x e r = declared x (full e r)
+declare_value x e r = declared x no_end (full e r)
 
 -- the temporaries among the arguments end before the object stands in its scope
 abbrev pub with_all : ℕ → List Argument → (List Given → Ex) → Ex
@@ -278,17 +296,17 @@ made_vector x (Some (copied e)) = vector_of x brackets.Parentheses (value e ∷ 
 made_vector x (Some (direct b xs)) = vector_of x b xs
 
 abbrev pub declare_object : Variable → Option Initializer → St
-declare_object x i r = declared x (made_object x i r)
+declare_object x i r = declared x (live_of x.what) (made_object x i r)
 
 abbrev pub declare_vector : Variable → Option Initializer → St
-declare_vector x i r = declared x (made_vector x i r)
+declare_vector x i r = declared x row_end (made_vector x i r)
 
 -- a vector of threads
 abbrev pub declare_team : Variable → St
-declare_team x r = declared x (inside make_team r)
+declare_team x r = declared x team_end (inside make_team r)
 
 abbrev pub declare_thread : Variable → Lambda → St
-declare_thread x l r = declared x (spawn x.spot.line l r)
+declare_thread x l r = declared x thread_end (spawn x.spot.line l r)
 
 -- ---- errors (C++17, "Handling an exception"; SYCL 2020, "Error handling")
 

@@ -13,6 +13,7 @@ use Rattle.sy_meaning.specs.declared.outcomes.Reply.{Reply}
 use Rattle.sy_meaning.specs.declared.outcomes.Reply.TheVariants as reply
 use Rattle.sy_meaning.specs.declared.runs.Run.{Run}
 use Rattle.sy_meaning.specs.declared.runs.World.{World}
+use Rattle.sy_meaning.specs.Asks.{Log, answers_in}
 use Rattle.sy_meaning.specs.Outcomes.{Ex, Op, St}
 use Rattle.sy_meaning.specs.Expressions.{Argument, Block, Calls, Exp, Lambda}
 use Rattle.sy_meaning.specs.Statements.{Again, Initializer, Printing, Statement, again, loop}
@@ -27,6 +28,12 @@ Waits None = ⊥
 Waits (Some (asks.Halt h)) = ⊥
 Waits (Some (asks.Finish z)) = ⊥
 Waits (Some a) = ⊤
+
+-- an ask after which its body asks nothing
+abbrev pub IsEnd : Ask → Type 0
+IsEnd (asks.Halt h) = ⊤
+IsEnd (asks.Finish z) = ⊤
+IsEnd a = ⊥
 
 abbrev pub stop_of : Evaluated → Option Ask
 stop_of (Stopped a) = Some a
@@ -48,17 +55,29 @@ abbrev pub round_stop : Option Flow → Option Ask
 round_stop None = None
 round_stop (Some f) = flow_stop f
 
+-- the answers that are left, and what was asked
+abbrev pub Fed : Type 0
+Fed = List Answer × Log
+
+abbrev pub feed_of : World → Fed
+feed_of w = (w.feed, w.asked)
+
+-- all answers: those that were taken, and those that are left
+abbrev pub all_answers : Fed → List Answer
+all_answers f = answers_in f.1 f.0
+
 -- from these answers and turns to those, up to an ask if the run stands at one. Where that waits for an answer, none is
--- left, and the ask has taken a turn too
-pub record Taken (answers : List Answer) (turns : ℕ) (stop : Option Ask) (rest : List Answer) (left : ℕ) : Type 0 where
+-- left, and the ask has taken a turn too. Each answer that was taken is noted with its ask
+pub record Taken (before : Fed) (turns : ℕ) (stop : Option Ask) (after : Fed) (left : ℕ) : Type 0 where
   pub count : ℕ
-  pub from_front : rest ≡ drop count answers
+  pub from_front : after.0 ≡ drop count before.0
   pub by_turns : left + count ≤ turns
-  pub at_end : Waits stop → (rest ≡ []) × (left + count + 1 ≤ turns)
+  pub at_end : Waits stop → (after.0 ≡ []) × (left + count + 1 ≤ turns)
+  pub noted : all_answers after ≡ all_answers before
 
 -- the second state can come of the first
 abbrev pub Leads : World → World → Type 0
-Leads w v = Taken w.feed w.turns None v.feed v.turns
+Leads w v = Taken (feed_of w) w.turns None (feed_of v) v.turns
 
 abbrev pub LeadsOn : Run → Run → Type 0
 LeadsOn r s = Leads r.world s.world
@@ -66,13 +85,13 @@ LeadsOn r s = Leads r.world s.world
 -- ---- what only leads on: turns fall, and answers are taken from the front
 
 abbrev pub OpLeads : Op → Type 0
-OpLeads f = (w : World) → Taken w.feed w.turns (stop_of (f w).0) (f w).1.feed (f w).1.turns
+OpLeads f = (w : World) → Taken (feed_of w) w.turns (stop_of (f w).0) (feed_of (f w).1) (f w).1.turns
 
 abbrev pub ExLeads : Ex → Type 0
-ExLeads f = (r : Run) → Taken r.world.feed r.world.turns (stop_of (f r).0) (f r).1.world.feed (f r).1.world.turns
+ExLeads f = (r : Run) → Taken (feed_of r.world) r.world.turns (stop_of (f r).0) (feed_of (f r).1.world) (f r).1.world.turns
 
 abbrev pub StLeads : St → Type 0
-StLeads f = (r : Run) → Taken r.world.feed r.world.turns (flow_stop (f r).0) (f r).1.world.feed (f r).1.world.turns
+StLeads f = (r : Run) → Taken (feed_of r.world) r.world.turns (flow_stop (f r).0) (feed_of (f r).1.world) (f r).1.world.turns
 
 -- what an expression designates, and its value
 abbrev pub ExpLeads : Exp → Type 0

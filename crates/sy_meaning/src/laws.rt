@@ -1,6 +1,6 @@
 //! Laws of the meaning of a source, each the contract of a function without parameters.
 
-ghost use Rattle.std.specs.Prelude.{◌≡◌, ◌++◌, ℕ, ℤ, List, [], ◌∷◌, true, Option, None, Some, Ok, Err, ◌+◌, ◌≤◌, length};
+ghost use Rattle.std.specs.Prelude.{◌≡◌, ◌++◌, ℕ, ℤ, List, [], ◌∷◌, true, Option, None, Some, Ok, Err, ◌+◌, ◌≤◌, length, slice_get};
 ghost use Rattle.sy_access.specs.declared.cells.Cell.{Cell};
 ghost use Rattle.sy_range.specs.declared.nd_ranges.Position.{Position};
 ghost use Rattle.sy_work.specs.declared.commands.Kernel.{Kernel};
@@ -16,7 +16,7 @@ ghost use Rattle.sy_typed.specs.declared.tree.Variable.{Variable};
 ghost use Rattle.sy_meaning.specs.declared.runs.Store.{Store};
 ghost use Rattle.sy_meaning.specs.Words.{Object, as_thing};
 ghost use Rattle.sy_meaning.specs.Lambdas.{all_words};
-ghost use Rattle.sy_meaning.specs.Next.{calls_of, item, means, next, objects_from};
+ghost use Rattle.sy_meaning.specs.Next.{asks_before, calls_of, entered, item, means, means_with, next, objects_from};
 ghost use Rattle.sy_meaning.specs.declared.outcomes.Evaluated.{Evaluated};
 ghost use Rattle.sy_meaning.specs.declared.outcomes.Reply.{Reply};
 ghost use Rattle.sy_meaning.specs.declared.runs.Run.{Run};
@@ -25,9 +25,10 @@ ghost use Rattle.sy_meaning.specs.Outcomes.{Ex, St, ask, on_turn, spent, turn};
 ghost use Rattle.sy_meaning.specs.Expressions.{Exp};
 ghost use Rattle.sy_meaning.specs.Statements.{Statement, do_once, for_once, round, scoped, step_of, while_once};
 ghost use Rattle.sy_meaning.specs.Bodies.{Body};
-ghost use Rattle.sy_meaning.specs.Turns.{ExpLeads, IsRepeated, MaybeExp, MaybeStatement, StLeads, TakesTurn, Waits, expression, statement};
+ghost use Rattle.sy_meaning.specs.Turns.{ExpLeads, IsEnd, IsRepeated, MaybeExp, MaybeStatement, StLeads, TakesTurn, Waits, expression, statement};
+ghost use Rattle.sy_meaning.specs.Asks.{Fits, HoldTogether, answers_in};
 ghost use Rattle.sy_meaning.specs.Captures.{HasType, AllHave};
-ghost use Rattle.sy_meaning.specs.Items.{Came, Footprint, Item, phase, first_fault, written};
+ghost use Rattle.sy_meaning.specs.Items.{Came, Footprint, Item, footprint, phase, first_fault, written};
 ghost use Rattle.sy_meaning.specs.Kernels.{Done, Items, all_touches, footprints, group_done, nothing_done, phases, run_kernel, store_of};
 ghost use Rattle.sy_meaning.specs.Orders.{reordered, diverges, SameStore, SameLog, meets, Fails, Holds, KernelFails};
 
@@ -105,4 +106,26 @@ pub fn no_loop_counts_its_rounds()
 /// the count of phases that its definition goes by is never met.
 pub fn no_group_counts_its_phases()
     ensures { (bodies : List Body) (limit body : ℕ) (captures : List ℤ) (n : ℕ) (ps : List Position) (inputs : List Input) → limit + 1 ≤ n → phases (item bodies limit body captures) ps n [] (store_of inputs) [] nothing_done ≡ group_done (item bodies limit body captures) limit inputs ps }
+{}
+
+/// A call runs the body of the function with the same calls again: as each call takes a turn, the depth of calls that
+/// their definition goes by is never met. A body may have any depth that isn't less than its turns.
+pub fn no_call_counts_its_depth()
+    ensures call { (bodies : List Body) (limit n f : ℕ) (os : List Object) (r : Run) → r.world.turns + 1 ≤ n → calls_of bodies limit n f os r ≡ entered (means_with bodies limit (calls_of bodies limit n)) (slice_get bodies f) os r }
+    ensures body { (bodies : List Body) (limit n : ℕ) (b : Body) (r : Run) → r.world.turns ≤ n → r.world.turns ≤ limit → means_with bodies limit (calls_of bodies limit n) b r ≡ means bodies limit b r }
+{}
+
+/// Where a body or an item has come to its end after some answers, its end is the same whatever answers follow, and so
+/// are the steps of the item.
+pub fn more_answers_change_no_end()
+    ensures body { (bodies : List Body) (limit body : ℕ) (captures : List ℤ) (answers more : List Answer) → IsEnd (next bodies limit body captures answers) → next bodies limit body captures (answers ++ more) ≡ next bodies limit body captures answers }
+    ensures item { (bodies : List Body) (limit body : ℕ) (captures : List ℤ) (p : Position) (stores : List Store) (answers more : List Answer) → IsEnd (item bodies limit body captures p stores answers).0 → footprint (item bodies limit body captures) p stores (answers ++ more) ≡ footprint (item bodies limit body captures) p stores answers }
+{}
+
+/// What a thread asks holds together, whatever it is answered: it closes only host accesses that it opened and ends
+/// only buffers that it made, each once and the last made first. Only the temporaries of a declaration end before what
+/// is declared, which was made after them. Each answer is noted with its ask.
+pub fn asks_of_a_thread_hold_together()
+    ensures answers { (bodies : List Body) (limit body : ℕ) (captures : List ℤ) (answers : List Answer) → Waits (Some (next bodies limit body captures answers)) → answers_in (asks_before bodies limit body captures answers) [] ≡ answers }
+    ensures asks { (bodies : List Body) (limit body : ℕ) (captures : List ℤ) (answers : List Answer) → HoldTogether (asks_before bodies limit body captures answers) × Fits (asks_before bodies limit body captures answers) (next bodies limit body captures answers) }
 {}

@@ -3,7 +3,7 @@
 use sqlite_items::Items;
 use sy_access::{Cell, Log, Needs, Numbers, Sizes, Values};
 use sy_range::Position;
-use sy_work::{Answer, Command};
+use sy_work::{Answer, Ask, Command};
 
 /// Whose elements an accessor has: a root's, a local accessor's of the command group, or a host access's.
 #[derive(Clone, Copy)]
@@ -93,6 +93,8 @@ pub struct World {
     pub turns: u64,
     /// The answers that are left.
     pub feed: Items<Answer>,
+    /// What was asked, with its answer, the last first.
+    pub asked: Items<(Ask, Answer)>,
     pub at: Option<Position>,
     /// The store of the phase, and those of the phases after it.
     pub store: Store,

@@ -148,13 +148,14 @@ pub enum TypedDeclaration {
     Object(Variable, Option<TypedInitializer>, Spot),
 }
 
-/// What is printed, at the `<<` before it. The bytes of a text are those that its literal stands for.
+/// What is printed, at the `<<` before it. The bytes of a text are those that its literal stands for. The last place is
+/// that of the text's or `endl`'s own token.
 #[cycle(typed)]
 #[derive(Drop)]
 pub enum TypedPrinted {
     Operand(Spot, Typed),
-    Bytes(Spot, Text),
-    EndLine(Spot),
+    Bytes(Spot, Text, Spot),
+    EndLine(Spot, Spot),
 }
 
 /// The first place of a statement that begins with a word is that word's. The last place is that of its `;`, of a
