@@ -14,8 +14,11 @@ use Rattle.sy_rules.specs.declared.names.Signature.{Signature}
 use Rattle.sy_rules.specs.declared.seen.Denotes.{Denotes}
 use Rattle.sy_rules.specs.declared.seen.Denotes.TheVariants as denotes
 use Rattle.sy_rules.specs.declared.seen.Seen.{Seen}
-use Rattle.sy_rules.specs.Fit.{Fit, fits, unfit_arguments, both, arguments_if, element_if, Row, may_be, type_in}
-use Rattle.sy_rules.specs.Layers.{SeenArgument}
+use Rattle.sy_rules.specs.declared.library.Fit.{Fit}
+use Rattle.sy_rules.specs.declared.library.Fit.TheVariants.{Fits, WrongArguments}
+use Rattle.sy_rules.specs.declared.library.Row.{Row}
+use Rattle.sy_rules.specs.declared.seen.SeenArgument.{SeenArgument}
+use Rattle.sy_rules.specs.Fit.{both, arguments_if, element_if, may_be, type_in}
 use Rattle.sy_rules.specs.Objects.{is_buffer, is_handler}
 use Rattle.sy_rules.specs.Seen.{fails, is_integer, kind_of, same_kind, same_dimensions, is_known}
 
@@ -87,7 +90,7 @@ element_kind (Some (thing.Buffer k d)) = Some k
 element_kind _ = None
 
 abbrev pub fit_combined : Option Thing → Option Kind → Fit
-fit_combined op None = fits
+fit_combined op None = Fits
 fit_combined op (Some k) = element_if (combines op k)
 
 abbrev pub fit_reduction : List SeenArgument → Fit
@@ -95,17 +98,17 @@ fit_reduction (b ∷ h ∷ op ∷ []) =
     both (arguments_if (may_be is_buffer b && (may_be is_handler h && may_be is_function_object op))) (fit_combined (type_in op) (element_kind (type_in b)))
 fit_reduction (b ∷ h ∷ op ∷ i ∷ []) =
     both (arguments_if (may_be is_buffer b && (may_be is_handler h && (may_be is_function_object op && may_be is_identity i)))) (fit_combined (type_in op) (element_kind (type_in b)))
-fit_reduction _ = unfit_arguments
+fit_reduction _ = WrongArguments
 
 abbrev pub fit_combining : List SeenArgument → Fit
 fit_combining (g ∷ x ∷ op ∷ []) =
     both (arguments_if (may_be is_group g && (may_be is_integer x && may_be is_function_object op))) (fit_combined (type_in op) (kind_of (type_in x)))
-fit_combining _ = unfit_arguments
+fit_combining _ = WrongArguments
 
 abbrev pub fit_broadcast : List SeenArgument → Fit
 fit_broadcast (g ∷ x ∷ []) = arguments_if (may_be is_group g && may_be is_integer x)
 fit_broadcast (g ∷ x ∷ i ∷ []) = arguments_if (may_be is_group g && (may_be is_integer x && may_be is_integer i))
-fit_broadcast _ = unfit_arguments
+fit_broadcast _ = WrongArguments
 
 abbrev pub fit_library : LibraryFunction → List SeenArgument → Fit
 fit_library function.Reduction xs = fit_reduction xs

@@ -1,11 +1,13 @@
 -- The values of constant expressions: those that are built of literals, constants, operators and casts.
 -- (C++17, [expr.const])
-use Rattle.std.specs.Prelude.{Bool, true, false, if◌then◌else◌, ℤ, pos, Option, Some, None, Result, Ok, Err}
+use Rattle.std.specs.Prelude.{ℕ, Bool, true, false, ◌||◌, if◌then◌else◌, List, ℤ, pos, Option, Some, None, Result, Ok, Err}
 use Rattle.std.specs.Ordering.{int_eq}
 use Rattle.sy_num.specs.declared.BinOp.{BinOp}
 use Rattle.sy_num.specs.declared.Kind.{Kind}
+use Rattle.sy_num.specs.declared.Kind.TheVariants as kind
 use Rattle.sy_num.specs.declared.UnOp.{UnOp}
 use Rattle.sy_num.specs.declared.Undefined.{Undefined}
+use Rattle.sy_num.specs.Kinds.{is_in_range}
 use Rattle.sy_num.specs.Operators.{applied, applied_one}
 use Rattle.sy_num.specs.Scalars.{Scalar, scalar, converted_num}
 use Rattle.sy_tree.specs.declared.operators.Operator.{Operator}
@@ -13,6 +15,7 @@ use Rattle.sy_tree.specs.declared.operators.Operator.TheVariants as operator
 use Rattle.sy_rules.specs.declared.seen.Constant.{Constant}
 use Rattle.sy_rules.specs.declared.seen.Constant.TheVariants as constant
 use Rattle.sy_rules.specs.declared.seen.Seen.{Seen}
+use Rattle.sy_rules.specs.Literals.{literal_kind, number_written}
 use Rattle.sy_rules.specs.Seen.{kind_of}
 
 abbrev pub value_or_none : Result Scalar Undefined → Constant
@@ -34,21 +37,39 @@ abbrev pub of_one : (ℤ → Constant) → Constant → Constant
 of_one f (constant.Number x) = f x
 of_one f c = c
 
+-- a number that isn't in its kind's range has no value, and is converted only where some kind holds it
+abbrev pub in_kind : Kind → (ℤ → Constant) → ℤ → Constant
+in_kind k f z = if is_in_range k z then f z else constant.Undefined
+
+abbrev pub in_any_kind : (ℤ → Constant) → ℤ → Constant
+in_any_kind f z = if is_in_range kind.LLong z || is_in_range kind.ULLong z then f z else constant.Undefined
+
 abbrev pub converted_to : Kind → Constant → Constant
-converted_to k c = of_one (λ z. constant.Number (converted_num k z)) c
+converted_to k c = of_one (in_any_kind (λ z. constant.Number (converted_num k z))) c
 
 abbrev pub converted_to_type : Option Kind → Constant → Constant
 converted_to_type None c = constant.Unknown
 converted_to_type (Some k) c = converted_to k c
 
+-- the value of an integer literal, if a kind of its list holds it
+abbrev pub literal_value : List ℕ → Constant
+literal_value text = elim (literal_kind text) [ None ↦ constant.Undefined | Some k ↦ constant.Number (pos (number_written text)) ]
+
+abbrev pub number_in : Constant → ℤ
+number_in (constant.Number z) = z
+number_in _ = pos 0
+
 -- ---- operators
 
 abbrev pub unary_of : UnOp → Option Kind → Constant → Constant
 unary_of op None c = constant.Unknown
-unary_of op (Some k) c = of_one (λ z. value_or_none (applied_one op (scalar k z))) c
+unary_of op (Some k) c = of_one (in_kind k (λ z. value_or_none (applied_one op (scalar k z)))) c
+
+abbrev pub strict_in : BinOp → Kind → Kind → ℤ → ℤ → Constant
+strict_in op j k x y = in_kind j (λ x. in_kind k (λ y. value_or_none (applied op (scalar j x) (scalar k y))) y) x
 
 abbrev pub strict_of : BinOp → Option Kind → Option Kind → Constant → Constant → Constant
-strict_of op (Some j) (Some k) a b = of_both (λ x y. value_or_none (applied op (scalar j x) (scalar k y))) a b
+strict_of op (Some j) (Some k) a b = of_both (strict_in op j k) a b
 strict_of op _ _ a b = constant.Unknown
 
 abbrev pub truth_of : Constant → Constant

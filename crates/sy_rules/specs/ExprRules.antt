@@ -11,7 +11,7 @@ use Rattle.sy_tree.specs.declared.parts.Lexeme.{Lexeme}
 use Rattle.sy_tree.specs.declared.parts.ObjectType.{ObjectType}
 use Rattle.sy_tree.specs.declared.parts.ObjectType.TheVariants as object
 use Rattle.sy_tree.specs.declared.parts.TemplateArgument.{TemplateArgument}
-use Rattle.sy_tree.specs.declared.tree.Argument.TheOpen.{Argument-F, Expr-F}
+use Rattle.sy_tree.specs.declared.tree.Argument.TheOpen.{Expr-F}
 use Rattle.sy_typed.specs.declared.things.Dimensions.{Dimensions}
 use Rattle.sy_typed.specs.declared.things.Dimensions.TheVariants.{One}
 use Rattle.sy_typed.specs.declared.things.Member.{Member}
@@ -25,11 +25,15 @@ use Rattle.sy_rules.specs.declared.names.Taken.{Taken}
 use Rattle.sy_rules.specs.declared.names.Taken.TheVariants as taken
 use Rattle.sy_rules.specs.declared.names.ThreadScope.{ThreadScope}
 use Rattle.sy_rules.specs.declared.seen.Seen.{Seen}
+use Rattle.sy_rules.specs.declared.library.Fit.{Fit}
+use Rattle.sy_rules.specs.declared.library.Fit.TheVariants.{Fits, WrongDimension, WrongArguments, WrongElement}
+use Rattle.sy_rules.specs.declared.library.Row.{Row}
+use Rattle.sy_rules.specs.declared.seen.SeenArgument.{SeenArgument}
+use Rattle.sy_rules.specs.declared.seen.SeenArgument.TheVariants as argument
 use Rattle.sy_rules.specs.Calls.{all_passed, takes_references, signature_at, library_row, is_group, is_reduction_call, is_const}
 use Rattle.sy_rules.specs.Faults.{at}
-use Rattle.sy_rules.specs.Fit.{Fit, fits, unfit_dimension, unfit_arguments, unfit_element, Row}
 use Rattle.sy_rules.specs.Foreign.{is_foreign, is_host, made_in_host, type_start, type_word, type_of_name}
-use Rattle.sy_rules.specs.Layers.{SeenExpr, SeenArgument}
+use Rattle.sy_rules.specs.Layers.{SeenExpr}
 use Rattle.sy_rules.specs.Literals.{literal_kind, dimensions_written}
 use Rattle.sy_rules.specs.Members.{member_row, row_with}
 use Rattle.sy_rules.specs.Names.{look_up}
@@ -73,15 +77,15 @@ bad_literal _ = []
 -- ---- what the library makes of arguments
 
 abbrev pub is_wrong_dimension : Fit → Bool
-is_wrong_dimension unfit_dimension = true
+is_wrong_dimension WrongDimension = true
 is_wrong_dimension _ = false
 
 abbrev pub is_wrong_arguments : Fit → Bool
-is_wrong_arguments unfit_arguments = true
+is_wrong_arguments WrongArguments = true
 is_wrong_arguments _ = false
 
 abbrev pub is_wrong_element : Fit → Bool
-is_wrong_element unfit_element = true
+is_wrong_element WrongElement = true
 is_wrong_element _ = false
 
 -- the row of a member of an object, if there is one
@@ -90,7 +94,7 @@ member_of None x t xs = None
 member_of (Some o) x t xs = elim (member_named x.text) [ None ↦ None | Some m ↦ row_with t m (member_row o m xs) ]
 
 abbrev pub fit_in : Option Row → Fit
-fit_in None = fits
+fit_in None = Fits
 fit_in (Some r) = r.fit
 
 abbrev pub gives_in : Option Row → Option Thing
@@ -264,9 +268,9 @@ not_assignable _ = []
 -- ---- ModeBroken
 
 abbrev pub unread_argument : SeenArgument → List Spot
-unread_argument (Argument-F.Value a) = unread a
-unread_argument (Argument-F.Braced s xs e) = flat_map unread xs
-unread_argument (Argument-F.Lambda l) = []
+unread_argument (argument.Value a) = unread a
+unread_argument (argument.Braced xs) = flat_map unread xs
+unread_argument (argument.Lambda l) = []
 
 abbrev pub unread_arguments : List SeenArgument → List Spot
 unread_arguments = flat_map unread_argument

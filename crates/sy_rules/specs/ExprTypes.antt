@@ -1,5 +1,5 @@
 -- The type of an expression over what is seen of its parts, and its typed tree.
-use Rattle.std.specs.Prelude.{ℕ, Bool, true, false, ◌&&◌, ◌||◌, not, if◌then◌else◌, nat_lt, List, [], ◌∷◌, ◌++◌, ℤ, pos, Option, Some, None, unwrap_or}
+use Rattle.std.specs.Prelude.{ℕ, Bool, true, false, ◌&&◌, ◌||◌, not, if◌then◌else◌, nat_lt, List, [], ◌∷◌, ◌++◌, pos, Option, Some, None, unwrap_or}
 use Rattle.std.specs.List.{list_all}
 use Rattle.sy_access.specs.declared.Mode.{Mode}
 use Rattle.sy_access.specs.declared.Mode.TheVariants as mode
@@ -12,7 +12,7 @@ use Rattle.sy_num.specs.Operators.{result_kind, result_kind_one}
 use Rattle.sy_tree.specs.declared.operators.Operator.{Operator}
 use Rattle.sy_tree.specs.declared.operators.Operator.TheVariants as operator
 use Rattle.sy_tree.specs.declared.parts.IntegerType.{IntegerType}
-use Rattle.sy_tree.specs.declared.tree.Argument.TheOpen.{Argument-F, Expr-F}
+use Rattle.sy_tree.specs.declared.tree.Argument.TheOpen.{Expr-F}
 use Rattle.sy_typed.specs.declared.things.Dimensions.{Dimensions}
 use Rattle.sy_typed.specs.declared.things.Dimensions.TheVariants.{One, Two, Three}
 use Rattle.sy_typed.specs.declared.things.Member.{Member}
@@ -30,12 +30,14 @@ use Rattle.sy_rules.specs.declared.seen.Constant.TheVariants as constant
 use Rattle.sy_rules.specs.declared.seen.Denotes.{Denotes}
 use Rattle.sy_rules.specs.declared.seen.Denotes.TheVariants as denotes
 use Rattle.sy_rules.specs.declared.seen.Seen.{Seen}
+use Rattle.sy_rules.specs.declared.seen.SeenArgument.{SeenArgument}
+use Rattle.sy_rules.specs.declared.seen.SeenArgument.TheVariants as argument
 use Rattle.sy_rules.specs.Calls.{returned_type, integer_of, library_row}
-use Rattle.sy_rules.specs.Constants.{converted_to, converted_to_type, unary_of, binary_of, choice_of}
+use Rattle.sy_rules.specs.Constants.{literal_value, number_in, converted_to, converted_to_type, unary_of, binary_of, choice_of}
 use Rattle.sy_rules.specs.ExprRules.{faults, member_of, gives_in, function_of, is_whole_index, is_outside, are_error_codes, is_equality, is_data, in_known}
 use Rattle.sy_rules.specs.Foreign.{is_foreign, type_start, type_of_name, foreign_uses}
-use Rattle.sy_rules.specs.Layers.{SeenExpr, SeenArgument}
-use Rattle.sy_rules.specs.Literals.{literal_kind, number_written, character_value}
+use Rattle.sy_rules.specs.Layers.{SeenExpr}
+use Rattle.sy_rules.specs.Literals.{literal_kind, character_value}
 use Rattle.sy_rules.specs.Names.{look_up}
 use Rattle.sy_rules.specs.Objects.{object_row}
 use Rattle.sy_rules.specs.Outcome.{Finding, calls, uses, faults_found}
@@ -135,9 +137,9 @@ type_of n (Expr-F.Conditional a s b c) = integer_of (kind_of_both kind_of_arms (
 -- ---- a construct has a type where no rule is broken in it
 
 abbrev pub is_sound_argument : SeenArgument → Bool
-is_sound_argument (Argument-F.Value a) = is_known a
-is_sound_argument (Argument-F.Braced s xs e) = list_all is_known xs
-is_sound_argument (Argument-F.Lambda l) = l.is_sound
+is_sound_argument (argument.Value a) = is_known a
+is_sound_argument (argument.Braced xs) = list_all is_known xs
+is_sound_argument (argument.Lambda l) = l.is_sound
 
 abbrev pub parts_are_known : SeenExpr → Bool
 parts_are_known (Expr-F.Call f xs e) = list_all is_known xs
@@ -205,7 +207,7 @@ constant_of_name None = constant.Unknown
 constant_of_name (Some v) = v.constant
 
 abbrev pub constant_of : Names → SeenExpr → Constant
-constant_of n (Expr-F.Integer x) = constant.Number (pos (number_written x.text))
+constant_of n (Expr-F.Integer x) = literal_value x.text
 constant_of n (Expr-F.Character x) = constant.Number (pos (character_value x.text))
 constant_of n (Expr-F.Boolean s b) = constant.Number (if b then pos 1 else pos 0)
 constant_of n (Expr-F.Name x) = constant_of_name (look_up n.entries x.text)
@@ -311,10 +313,6 @@ variable_named v = variable v.number v.what v.spot
 
 abbrev pub typed : TypedNode → Option Thing → Spot → Typed
 typed x t s = roll-Typed (record { node = x; what = or_void t; spot = s })
-
-abbrev pub number_in : Constant → ℤ
-number_in (constant.Number z) = z
-number_in _ = pos 0
 
 abbrev pub node_of_local : Bool → ℕ → TypedNode
 node_of_local true i = node.Reference i

@@ -20,11 +20,14 @@ use Rattle.sy_typed.specs.declared.tree.TypedCapture.TheVariants as typed_captur
 use Rattle.sy_rules.specs.declared.names.Named.{Named}
 use Rattle.sy_rules.specs.declared.names.Names.{Names}
 use Rattle.sy_rules.specs.declared.names.ThreadScope.{ThreadScope}
+use Rattle.sy_rules.specs.declared.library.KernelIndex.{KernelIndex}
+use Rattle.sy_rules.specs.declared.library.KernelIndex.TheVariants as index
+use Rattle.sy_rules.specs.declared.library.Role.{Role}
+use Rattle.sy_rules.specs.declared.library.Role.TheVariants as role
 use Rattle.sy_rules.specs.ExprRules.{wide_literal, no_dimension, is_misused_in, may_share}
 use Rattle.sy_rules.specs.ExprTypes.{variable_named}
 use Rattle.sy_rules.specs.Faults.{at}
 use Rattle.sy_rules.specs.Literals.{dimensions_written}
-use Rattle.sy_rules.specs.Members.{Role, a_group, a_thread, a_kernel, Index, no_index, over_range, over_nd_range, any_index}
 use Rattle.sy_rules.specs.Names.{look_up}
 use Rattle.sy_rules.specs.Seen.{when, fails}
 use Rattle.sy_rules.specs.StmtRules.{redeclared}
@@ -64,9 +67,9 @@ is_only p _ = false
 
 -- a group takes all by reference, a kernel all by copy, and a thread anything but all by copy
 abbrev pub captures_fit : Role → List Capture → Bool
-captures_fit a_group cs = is_only is_reference_default cs
-captures_fit (a_kernel i r) cs = is_only is_copy_default cs
-captures_fit (a_thread v) cs = is_listed_well [] cs && not (list_any is_copy_default cs)
+captures_fit role.Group cs = is_only is_reference_default cs
+captures_fit (role.Kernel i r) cs = is_only is_copy_default cs
+captures_fit (role.Thread v) cs = is_listed_well [] cs && not (list_any is_copy_default cs)
 
 -- ---- ThreadCapture and UnknownName at listed names
 
@@ -92,7 +95,7 @@ listed_faults n t by_reference x =
 
 -- the scope of a thread's lambda at a place, if the role is a thread's
 abbrev pub thread_scope : Names → Role → List Capture → Option ThreadScope
-thread_scope n (a_thread v) cs = Some (record { outside = n.depth; by_reference = list_any is_reference_default cs; variable = v })
+thread_scope n (role.Thread v) cs = Some (record { outside = n.depth; by_reference = list_any is_reference_default cs; variable = v })
 thread_scope n _ cs = None
 
 -- ---- parameters
@@ -102,8 +105,8 @@ index_type f x = elim (dimensions_written x.text) [ None ↦ None | Some d ↦ S
 
 -- the type of `auto&`: a group's handler, or the variable of a kernel's reduction
 abbrev pub auto_parameter : Role → Option Thing
-auto_parameter a_group = Some thing.Handler
-auto_parameter (a_kernel i (Some r)) = r
+auto_parameter role.Group = Some thing.Handler
+auto_parameter (role.Kernel i (Some r)) = r
 auto_parameter _ = None
 
 abbrev pub parameter_type : Role → LambdaParameterType → Option Thing
@@ -135,11 +138,11 @@ is_auto (parameter.Auto s) = true
 is_auto _ = false
 
 -- an id or item over a range, an nd_item over an nd_range
-abbrev pub is_index : Index → LambdaParameterType → Bool
-is_index (over_range d) (parameter.Id q x) = true
-is_index (over_range d) (parameter.Item q x) = true
-is_index (over_nd_range d) (parameter.NdItem q x) = true
-is_index any_index t = not (is_handler_type t)
+abbrev pub is_index : KernelIndex → LambdaParameterType → Bool
+is_index (index.OverRange d) (parameter.Id q x) = true
+is_index (index.OverRange d) (parameter.Item q x) = true
+is_index (index.OverNdRange d) (parameter.NdItem q x) = true
+is_index index.Unknown t = not (is_handler_type t)
 is_index _ t = false
 
 abbrev pub is_handler_reference : List LambdaParameter → Bool
@@ -159,15 +162,15 @@ abbrev pub rest_fits : Option (Option Thing) → List LambdaParameter → Bool
 rest_fits None ps = are_none ps
 rest_fits (Some t) ps = is_reducer_reference ps
 
-abbrev pub indexed_fits : Index → Option (Option Thing) → List LambdaParameter → Bool
-indexed_fits no_index r ps = are_none ps
+abbrev pub indexed_fits : KernelIndex → Option (Option Thing) → List LambdaParameter → Bool
+indexed_fits index.Absent r ps = are_none ps
 indexed_fits i r [] = false
 indexed_fits i r (p ∷ ps) = is_index i p.of && rest_fits r ps
 
 abbrev pub parameters_fit : Role → List LambdaParameter → Bool
-parameters_fit a_group ps = is_handler_reference ps
-parameters_fit (a_thread v) ps = are_none ps
-parameters_fit (a_kernel i r) ps = indexed_fits i r ps
+parameters_fit role.Group ps = is_handler_reference ps
+parameters_fit (role.Thread v) ps = are_none ps
+parameters_fit (role.Kernel i r) ps = indexed_fits i r ps
 
 -- BadLambda, where nothing else is broken in the lambda
 abbrev pub bad_lambda : Role → Spot → List Capture → List LambdaParameter → List Diagnostic → List Spot
@@ -214,7 +217,7 @@ number_listed (typed_capture.Element x) = x.number
 
 -- a kernel gets copies of what it uses; a thread what it lists, and then by reference what it uses; a group nothing
 abbrev pub captures_given : Role → ℕ → List TypedCapture → List Named → List TypedCapture
-captures_given a_group start listed used = []
-captures_given (a_kernel i r) start listed used = map copy_of (each_once [] (outer_uses start used))
-captures_given (a_thread v) start listed used =
+captures_given role.Group start listed used = []
+captures_given (role.Kernel i r) start listed used = map copy_of (each_once [] (outer_uses start used))
+captures_given (role.Thread v) start listed used =
     listed ++ map reference_to (each_once (map number_listed listed) (outer_uses start used))

@@ -7,38 +7,31 @@ use Rattle.sy_access.specs.declared.Mode.TheVariants as mode
 use Rattle.sy_num.specs.declared.Kind.TheVariants as kind
 use Rattle.sy_tree.specs.declared.parts.TemplateArgument.{TemplateArgument}
 use Rattle.sy_tree.specs.declared.parts.TemplateArgument.TheVariants as template
-use Rattle.sy_tree.specs.declared.tree.Argument.TheOpen.{Argument-F}
 use Rattle.sy_typed.specs.declared.things.Dimensions.{Dimensions}
 use Rattle.sy_typed.specs.declared.things.Member.{Member}
 use Rattle.sy_typed.specs.declared.things.Member.TheVariants as member
 use Rattle.sy_typed.specs.declared.things.Thing.{Thing}
 use Rattle.sy_typed.specs.declared.things.Thing.TheVariants as thing
-use Rattle.sy_rules.specs.Fit.{Fit, fits, unfit_arguments, both, arguments_if, dimension_if, element_if, Row, row, may_be, is_lambda, type_in, nothing_given, one_given}
-use Rattle.sy_rules.specs.Layers.{SeenArgument}
+use Rattle.sy_rules.specs.declared.library.Fit.{Fit}
+use Rattle.sy_rules.specs.declared.library.Fit.TheVariants.{Fits, WrongArguments}
+use Rattle.sy_rules.specs.declared.library.KernelIndex.{KernelIndex}
+use Rattle.sy_rules.specs.declared.library.KernelIndex.TheVariants as index
+use Rattle.sy_rules.specs.declared.library.Role.{Role}
+use Rattle.sy_rules.specs.declared.library.Role.TheVariants as role
+use Rattle.sy_rules.specs.declared.library.Row.{Row}
+use Rattle.sy_rules.specs.declared.seen.SeenArgument.{SeenArgument}
+use Rattle.sy_rules.specs.declared.seen.SeenArgument.TheVariants as argument
+use Rattle.sy_rules.specs.Fit.{both, arguments_if, dimension_if, element_if, row, may_be, is_lambda, type_in, nothing_given, one_given}
 use Rattle.sy_rules.specs.Objects.{is_event}
 use Rattle.sy_rules.specs.Seen.{is_integer, same_dimensions, same_kind}
 use Rattle.sy_rules.specs.Words.{is_information}
 
 -- ---- what a lambda is given for
 
--- what a kernel's first parameter is: none, an id or item of a range's dimensions, an nd_item; or it isn't known
-pub data Index : Type 0 where
-  no_index : Index
-  over_range : Dimensions → Index
-  over_nd_range : Dimensions → Index
-  any_index : Index
-
--- a command group; a thread with the number of its variable or vector; a kernel with its index and, for a reduction,
--- the type of its second parameter
-pub data Role : Type 0 where
-  a_group : Role
-  a_thread : ℕ → Role
-  a_kernel : Index → Option (Option Thing) → Role
-
-abbrev pub index_over : Option Thing → Index
-index_over (Some (thing.Range d)) = over_range d
-index_over (Some (thing.NdRange d)) = over_nd_range d
-index_over _ = any_index
+abbrev pub index_over : Option Thing → KernelIndex
+index_over (Some (thing.Range d)) = index.OverRange d
+index_over (Some (thing.NdRange d)) = index.OverNdRange d
+index_over _ = index.Unknown
 
 abbrev pub reducer_for : Option Thing → Option Thing
 reducer_for (Some (thing.Reduction k f)) = Some (thing.Reducer k f)
@@ -46,8 +39,8 @@ reducer_for _ = None
 
 -- the role of a lambda as an argument of parallel_for, behind these
 abbrev pub kernel_after : List SeenArgument → Option Role
-kernel_after (r ∷ []) = Some (a_kernel (index_over (type_in r)) None)
-kernel_after (r ∷ x ∷ []) = Some (a_kernel (index_over (type_in r)) (Some (reducer_for (type_in x))))
+kernel_after (r ∷ []) = Some (role.Kernel (index_over (type_in r)) None)
+kernel_after (r ∷ x ∷ []) = Some (role.Kernel (index_over (type_in r)) (Some (reducer_for (type_in x))))
 kernel_after _ = None
 
 abbrev pub if_first : Role → List SeenArgument → Option Role
@@ -56,9 +49,9 @@ if_first r _ = None
 
 -- the role of a lambda as an argument of a member, behind these arguments; `v` is the variable that the object is
 abbrev pub member_role : Thing → ℕ → Member → List SeenArgument → Option Role
-member_role thing.Queue v member.Submit before = if_first a_group before
-member_role thing.ThreadVector v member.EmplaceBack before = if_first (a_thread v) before
-member_role thing.Handler v member.SingleTask before = if_first (a_kernel no_index None) before
+member_role thing.Queue v member.Submit before = if_first role.Group before
+member_role thing.ThreadVector v member.EmplaceBack before = if_first (role.Thread v) before
+member_role thing.Handler v member.SingleTask before = if_first (role.Kernel index.Absent None) before
 member_role thing.Handler v member.ParallelFor before = kernel_after before
 member_role _ v m before = None
 
@@ -85,13 +78,13 @@ agree _ _ = true
 
 -- a kernel whose parameter has the dimensions of the range
 abbrev pub fit_kernel : SeenArgument → SeenArgument → Fit
-fit_kernel r (Argument-F.Lambda l) = dimension_if (agree (extent_dimensions (type_in r)) l.dimensions)
+fit_kernel r (argument.Lambda l) = dimension_if (agree (extent_dimensions (type_in r)) l.dimensions)
 fit_kernel r x = arguments_if (is_lambda x)
 
 abbrev pub fit_parallel : List SeenArgument → Fit
 fit_parallel (r ∷ x ∷ []) = both (arguments_if (may_be is_extent r)) (fit_kernel r x)
 fit_parallel (r ∷ s ∷ x ∷ []) = both (arguments_if (may_be is_extent r && may_be is_reduction s)) (fit_kernel r x)
-fit_parallel _ = unfit_arguments
+fit_parallel _ = WrongArguments
 
 abbrev pub writes : Mode → Bool
 writes mode.Read = false
@@ -111,7 +104,7 @@ is_read_accessor _ = false
 
 abbrev pub fit_fill : List SeenArgument → Fit
 fit_fill (a ∷ x ∷ []) = arguments_if (may_be is_written_accessor a && may_be is_integer x)
-fit_fill _ = unfit_arguments
+fit_fill _ = WrongArguments
 
 abbrev pub same_elements : Option Thing → Option Thing → Bool
 same_elements (Some (thing.Accessor j d m)) (Some (thing.Accessor k e n)) = same_kind j k
@@ -119,7 +112,7 @@ same_elements _ _ = true
 
 abbrev pub fit_copy : List SeenArgument → Fit
 fit_copy (a ∷ b ∷ []) = both (arguments_if (may_be is_read_accessor a && may_be is_written_accessor b)) (element_if (same_elements (type_in a) (type_in b)))
-fit_copy _ = unfit_arguments
+fit_copy _ = WrongArguments
 
 -- ---- members
 
@@ -138,7 +131,7 @@ numbered xs = taking (may_be is_integer) xs size
 
 -- the whole without an argument, a number of one dimension with one
 abbrev pub whole_or_numbered : Thing → List SeenArgument → Option Row
-whole_or_numbered t [] = Some (row fits t)
+whole_or_numbered t [] = Some (row Fits t)
 whole_or_numbered t xs = numbered xs
 
 abbrev pub member_row : Thing → Member → List SeenArgument → Option Row

@@ -11,7 +11,6 @@ use Rattle.sy_tree.specs.declared.parts.Brackets.TheVariants as brackets
 use Rattle.sy_tree.specs.declared.parts.ElementArguments.{ElementArguments}
 use Rattle.sy_tree.specs.declared.parts.ObjectType.{ObjectType}
 use Rattle.sy_tree.specs.declared.parts.ObjectType.TheVariants as object
-use Rattle.sy_tree.specs.declared.tree.Argument.TheOpen.{Argument-F, Initializer-F}
 use Rattle.sy_typed.specs.declared.things.Dimensions.{Dimensions}
 use Rattle.sy_typed.specs.declared.things.Dimensions.TheVariants.{One}
 use Rattle.sy_typed.specs.declared.things.Thing.{Thing}
@@ -19,8 +18,16 @@ use Rattle.sy_typed.specs.declared.things.Thing.TheVariants as thing
 use Rattle.sy_rules.specs.declared.seen.Denotes.{Denotes}
 use Rattle.sy_rules.specs.declared.seen.Denotes.TheVariants as denotes
 use Rattle.sy_rules.specs.declared.seen.Seen.{Seen}
-use Rattle.sy_rules.specs.Fit.{Fit, fits, unfit_arguments, both, arguments_if, element_if, Row, row, may_be, type_in, all_integers, one_given, Wanted, unwritten, unknown, wanted, wanted_of, wanted_by, fit_dimensions, fit_count, fit_range, fit_range_type}
-use Rattle.sy_rules.specs.Layers.{SeenArgument, SeenInitializer}
+use Rattle.sy_rules.specs.declared.library.Fit.{Fit}
+use Rattle.sy_rules.specs.declared.library.Fit.TheVariants.{Fits, WrongArguments}
+use Rattle.sy_rules.specs.declared.library.Row.{Row}
+use Rattle.sy_rules.specs.declared.library.Wanted.{Wanted}
+use Rattle.sy_rules.specs.declared.library.Wanted.TheVariants as wanted
+use Rattle.sy_rules.specs.declared.seen.SeenArgument.{SeenArgument}
+use Rattle.sy_rules.specs.declared.seen.SeenArgument.TheVariants as argument
+use Rattle.sy_rules.specs.declared.seen.SeenInitializer.{SeenInitializer}
+use Rattle.sy_rules.specs.declared.seen.SeenInitializer.TheVariants as initializer
+use Rattle.sy_rules.specs.Fit.{both, arguments_if, element_if, row, may_be, type_in, all_integers, one_given, wanted_of, wanted_by, fit_dimensions, fit_count, fit_range, fit_range_type}
 use Rattle.sy_rules.specs.Literals.{dimensions_written, dimensions_numbered}
 use Rattle.sy_rules.specs.Seen.{is_integer, same_kind, is_known}
 
@@ -62,14 +69,14 @@ is_writing_tag _ = false
 -- ---- queue, device, context
 
 abbrev pub fit_queue : List SeenArgument → Fit
-fit_queue [] = fits
+fit_queue [] = Fits
 fit_queue (a ∷ []) = arguments_if (may_be is_in_order a || may_be is_device a)
 fit_queue (a ∷ b ∷ []) = arguments_if ((may_be is_device a && may_be is_in_order b) || (may_be is_context a && may_be is_device b))
 fit_queue (a ∷ b ∷ c ∷ []) = arguments_if (may_be is_context a && (may_be is_device b && may_be is_in_order c))
-fit_queue _ = unfit_arguments
+fit_queue _ = WrongArguments
 
 abbrev pub fit_device : List SeenArgument → Fit
-fit_device [] = fits
+fit_device [] = Fits
 fit_device xs = one_given (may_be is_device) xs
 
 -- ---- accessors
@@ -104,14 +111,14 @@ accessor_row (a ∷ h ∷ tags) = record {
   fit = arguments_if (may_be is_buffer a && (may_be is_handler h && are_tags tags));
   gives = accessor_to (type_in a) (mode_of_tags tags);
 }
-accessor_row _ = record { fit = unfit_arguments; gives = None }
+accessor_row _ = record { fit = WrongArguments; gives = None }
 
 abbrev pub host_accessor_row : List SeenArgument → Row
 host_accessor_row (a ∷ tags) = record {
   fit = arguments_if (may_be is_buffer a && are_tags tags);
   gives = host_accessor_to (type_in a) (mode_of_tags tags);
 }
-host_accessor_row _ = record { fit = unfit_arguments; gives = None }
+host_accessor_row _ = record { fit = WrongArguments; gives = None }
 
 -- the dimensions that stand behind an element's type: one where none do
 abbrev pub element_dimensions : ElementArguments → Option Dimensions
@@ -123,7 +130,7 @@ elements_of f (Some d) = Some (f d)
 
 abbrev pub fit_local_accessor : ElementArguments → List SeenArgument → Fit
 fit_local_accessor t (r ∷ h ∷ []) = both (fit_range (wanted_of (element_dimensions t)) r) (arguments_if (may_be is_handler h))
-fit_local_accessor t _ = unfit_arguments
+fit_local_accessor t _ = WrongArguments
 
 abbrev pub local_accessor_row : ElementArguments → List SeenArgument → Row
 local_accessor_row t xs = record {
@@ -135,7 +142,7 @@ local_accessor_row t xs = record {
 
 -- one to three integers, so many as dimensions are wanted
 abbrev pub fit_integers : Wanted → List SeenArgument → Fit
-fit_integers w [] = unfit_arguments
+fit_integers w [] = WrongArguments
 fit_integers w xs = both (arguments_if (all_integers xs && nat_le (length xs) 3)) (fit_count w (length xs))
 
 abbrev pub dimensions_of_range : Option Thing → Option Dimensions
@@ -149,8 +156,8 @@ dimensions_of_id _ = None
 -- one value: of the same type, or an integer
 abbrev pub fit_one : Wanted → SeenArgument → Option Dimensions → Fit
 fit_one w a (Some d) = fit_dimensions w d
-fit_one w (Argument-F.Value a) None = if is_known a then fit_integers w (Argument-F.Value a ∷ []) else fits
-fit_one w a None = unfit_arguments
+fit_one w (argument.Value a) None = if is_known a then fit_integers w (argument.Value a ∷ []) else Fits
+fit_one w a None = WrongArguments
 
 -- `same` gives the dimensions of a value of the same type
 abbrev pub fit_counted : (Option Thing → Option Dimensions) → Wanted → List SeenArgument → Fit
@@ -167,9 +174,9 @@ counted_dimensions same xs = dimensions_numbered (length xs)
 
 -- those that are written, else those that are found
 abbrev pub made_dimensions : Wanted → Option Dimensions → Option Dimensions
-made_dimensions (wanted d) found = Some d
-made_dimensions unknown found = None
-made_dimensions unwritten found = found
+made_dimensions (wanted.Written d) found = Some d
+made_dimensions wanted.Unknown found = None
+made_dimensions wanted.Unwritten found = found
 
 abbrev pub range_row : Wanted → List SeenArgument → Row
 range_row w xs = record {
@@ -187,36 +194,36 @@ id_row w xs = record {
 
 -- each of its two ranges may be an integer in one dimension
 abbrev pub fit_integer_side : Wanted → Fit
-fit_integer_side (wanted One) = fits
-fit_integer_side unknown = fits
-fit_integer_side _ = unfit_arguments
+fit_integer_side (wanted.Written One) = Fits
+fit_integer_side wanted.Unknown = Fits
+fit_integer_side _ = WrongArguments
 
 abbrev pub fit_side_type : Wanted → Option Thing → Fit
 fit_side_type w (Some t) = if is_integer t then fit_integer_side w else fit_range_type w (Some t)
-fit_side_type w None = fits
+fit_side_type w None = Fits
 
 abbrev pub fit_side : Wanted → SeenArgument → Fit
-fit_side w (Argument-F.Value a) = fit_side_type w a.what
+fit_side w (argument.Value a) = fit_side_type w a.what
 fit_side w x = fit_range w x
 
 abbrev pub fit_nd_range_value : Wanted → Option Thing → Fit
 fit_nd_range_value w (Some (thing.NdRange d)) = fit_dimensions w d
-fit_nd_range_value w None = fits
-fit_nd_range_value w (Some _) = unfit_arguments
+fit_nd_range_value w None = Fits
+fit_nd_range_value w (Some _) = WrongArguments
 
 -- where no dimensions are written, the second range has those of the first
 abbrev pub wanted_after : Wanted → SeenArgument → Wanted
-wanted_after unwritten a = elim (dimensions_of_range (type_in a)) [ None ↦ unwritten | Some d ↦ wanted d ]
+wanted_after wanted.Unwritten a = elim (dimensions_of_range (type_in a)) [ None ↦ wanted.Unwritten | Some d ↦ wanted.Written d ]
 wanted_after w a = w
 
 abbrev pub fit_second_side : Wanted → Wanted → SeenArgument → Fit
-fit_second_side unwritten v b = both (fit_side unwritten b) (fit_side v b)
+fit_second_side wanted.Unwritten v b = both (fit_side wanted.Unwritten b) (fit_side v b)
 fit_second_side w v b = fit_side w b
 
 abbrev pub fit_nd_range : Wanted → List SeenArgument → Fit
-fit_nd_range w (Argument-F.Value a ∷ []) = fit_nd_range_value w a.what
+fit_nd_range w (argument.Value a ∷ []) = fit_nd_range_value w a.what
 fit_nd_range w (a ∷ b ∷ []) = both (fit_side w a) (fit_second_side w (wanted_after w a) b)
-fit_nd_range w _ = unfit_arguments
+fit_nd_range w _ = WrongArguments
 
 abbrev pub dimensions_of_nd_range : Option Thing → Option Dimensions
 dimensions_of_nd_range (Some (thing.NdRange d)) = Some d
@@ -236,11 +243,11 @@ nd_range_row w xs = record {
 -- ---- buffer: over a vector, of a range, or a part of another one
 
 abbrev pub fit_element : Option ElementArguments → Kind → Fit
-fit_element None k = fits
+fit_element None k = Fits
 fit_element (Some t) k = element_if (same_kind t.element.kind k)
 
 abbrev pub buffer_wanted : Option ElementArguments → Wanted
-buffer_wanted None = unwritten
+buffer_wanted None = wanted.Unwritten
 buffer_wanted (Some t) = wanted_of (element_dimensions t)
 
 abbrev pub is_changeable : Denotes → Bool
@@ -252,39 +259,39 @@ abbrev pub is_open_name : Seen → Bool
 is_open_name a = a.is_bare && is_changeable a.denotes
 
 abbrev pub fit_only : Option ElementArguments → Seen → Option Thing → Fit
-fit_only t a None = fits
+fit_only t a None = Fits
 fit_only t a (Some (thing.Vector k)) = both (arguments_if (is_open_name a)) (both (fit_dimensions (buffer_wanted t) One) (fit_element t k))
-fit_only None a (Some _) = unfit_arguments
+fit_only None a (Some _) = WrongArguments
 fit_only t a what = fit_range_type (buffer_wanted t) what
 
 abbrev pub fit_data : Option ElementArguments → Seen → Option Thing → Fit
-fit_data t a None = fits
+fit_data t a None = Fits
 fit_data t a (Some (thing.Data k)) = both (arguments_if (is_open_name a)) (fit_element t k)
-fit_data t a (Some _) = unfit_arguments
+fit_data t a (Some _) = WrongArguments
 
 abbrev pub fit_id_type : Dimensions → Option Thing → Fit
-fit_id_type d None = fits
-fit_id_type d (Some (thing.Id e)) = fit_dimensions (wanted d) e
-fit_id_type d (Some _) = unfit_arguments
+fit_id_type d None = Fits
+fit_id_type d (Some (thing.Id e)) = fit_dimensions (wanted.Written d) e
+fit_id_type d (Some _) = WrongArguments
 
 abbrev pub fit_id : Dimensions → SeenArgument → Fit
-fit_id d (Argument-F.Value a) = fit_id_type d a.what
-fit_id d _ = unfit_arguments
+fit_id d (argument.Value a) = fit_id_type d a.what
+fit_id d _ = WrongArguments
 
 abbrev pub fit_part : Option ElementArguments → Seen → Option Thing → SeenArgument → SeenArgument → Fit
 fit_part t a (Some (thing.Buffer k d)) i r =
     both (arguments_if a.is_bare)
-    (both (fit_id d i) (both (fit_range (wanted d) r) (both (fit_dimensions (buffer_wanted t) d) (fit_element t k))))
-fit_part t a None i r = fits
-fit_part t a (Some _) i r = unfit_arguments
+    (both (fit_id d i) (both (fit_range (wanted.Written d) r) (both (fit_dimensions (buffer_wanted t) d) (fit_element t k))))
+fit_part t a None i r = Fits
+fit_part t a (Some _) i r = WrongArguments
 
 abbrev pub fit_buffer : Option ElementArguments → List SeenArgument → Fit
-fit_buffer t (Argument-F.Value a ∷ []) = fit_only t a a.what
-fit_buffer None (a ∷ []) = unfit_arguments
+fit_buffer t (argument.Value a ∷ []) = fit_only t a a.what
+fit_buffer None (a ∷ []) = WrongArguments
 fit_buffer (Some t) (a ∷ []) = fit_range (wanted_of (element_dimensions t)) a
-fit_buffer t (Argument-F.Value a ∷ r ∷ []) = both (fit_data t a a.what) (fit_range (buffer_wanted t) r)
-fit_buffer t (Argument-F.Value a ∷ i ∷ r ∷ []) = fit_part t a a.what i r
-fit_buffer t _ = unfit_arguments
+fit_buffer t (argument.Value a ∷ r ∷ []) = both (fit_data t a a.what) (fit_range (buffer_wanted t) r)
+fit_buffer t (argument.Value a ∷ i ∷ r ∷ []) = fit_part t a a.what i r
+fit_buffer t _ = WrongArguments
 
 abbrev pub data_buffer : Option Thing → Option Thing → Option Thing
 data_buffer (Some (thing.Data k)) (Some (thing.Range d)) = Some (thing.Buffer k d)
@@ -312,7 +319,7 @@ abbrev pub object_row : ObjectType → List SeenArgument → Row
 object_row (object.Queue q) xs = row (fit_queue xs) thing.Queue
 object_row (object.Device q) xs = row (fit_device xs) thing.Device
 object_row (object.Context q) xs = row (fit_device xs) thing.Context
-object_row (object.Event q) xs = row fits thing.Event
+object_row (object.Event q) xs = row Fits thing.Event
 object_row (object.Accessor q) xs = accessor_row xs
 object_row (object.HostAccessor q) xs = host_accessor_row xs
 object_row (object.LocalAccessor q t) xs = local_accessor_row t xs
@@ -325,13 +332,13 @@ object_row (object.NdRange q d) xs = nd_range_row (wanted_by d) xs
 
 abbrev pub fit_vector_arguments : Brackets → List SeenArgument → Fit
 fit_vector_arguments brackets.Braces xs = arguments_if (all_integers xs)
-fit_vector_arguments brackets.Parentheses [] = unfit_arguments
+fit_vector_arguments brackets.Parentheses [] = WrongArguments
 fit_vector_arguments brackets.Parentheses xs = arguments_if (all_integers xs && nat_le (length xs) 2)
 
 abbrev pub fit_vector_initializer : Option SeenInitializer → Fit
-fit_vector_initializer None = fits
-fit_vector_initializer (Some (Initializer-F.Copy s a)) = arguments_if (not (is_known a))
-fit_vector_initializer (Some (Initializer-F.Direct b s xs e)) = fit_vector_arguments b xs
+fit_vector_initializer None = Fits
+fit_vector_initializer (Some (initializer.Copy a)) = arguments_if (not (is_known a))
+fit_vector_initializer (Some (initializer.Direct b xs)) = fit_vector_arguments b xs
 
 -- no vector of bool
 abbrev pub fit_vector : Kind → Option SeenInitializer → Fit
@@ -350,16 +357,16 @@ is_event thing.Event = true
 is_event _ = false
 
 abbrev pub fit_device_vector : Option SeenInitializer → Fit
-fit_device_vector (Some (Initializer-F.Copy s a)) = arguments_if (is_call_of is_device_vector a)
-fit_device_vector _ = unfit_arguments
+fit_device_vector (Some (initializer.Copy a)) = arguments_if (is_call_of is_device_vector a)
+fit_device_vector _ = WrongArguments
 
 -- an event is what a call of submit gives, behind `=`
 abbrev pub is_submitted : Option SeenInitializer → Bool
-is_submitted (Some (Initializer-F.Copy s a)) = is_call_of is_event a
+is_submitted (Some (initializer.Copy a)) = is_call_of is_event a
 is_submitted _ = false
 
 -- `=` gives one argument
 abbrev pub arguments_of : Option SeenInitializer → List SeenArgument
 arguments_of None = []
-arguments_of (Some (Initializer-F.Copy s a)) = Argument-F.Value a ∷ []
-arguments_of (Some (Initializer-F.Direct b s xs e)) = xs
+arguments_of (Some (initializer.Copy a)) = argument.Value a ∷ []
+arguments_of (Some (initializer.Direct b xs)) = xs

@@ -23,12 +23,15 @@ use Rattle.sy_rules.specs.declared.names.Setting.{Setting}
 use Rattle.sy_rules.specs.declared.seen.Constant.{Constant}
 use Rattle.sy_rules.specs.declared.seen.Constant.TheVariants as constant
 use Rattle.sy_rules.specs.declared.seen.Seen.{Seen}
+use Rattle.sy_rules.specs.declared.seen.SeenInitializer.{SeenInitializer}
+use Rattle.sy_rules.specs.declared.statements.Shared.{Shared}
+use Rattle.sy_rules.specs.declared.statements.Shared.TheVariants as shared
 use Rattle.sy_rules.specs.Calls.{is_const}
 use Rattle.sy_rules.specs.Constants.{converted_to_type}
 use Rattle.sy_rules.specs.ExprRules.{in_type, wide_literal, no_dimension, unread_arguments, is_wrong_dimension, is_wrong_arguments, is_wrong_element}
 use Rattle.sy_rules.specs.Faults.{at}
 use Rattle.sy_rules.specs.Foreign.{is_host, made_in_host, type_start}
-use Rattle.sy_rules.specs.Layers.{SeenFull, SeenInitializer, SeenStmt}
+use Rattle.sy_rules.specs.Layers.{SeenFull, SeenStmt}
 use Rattle.sy_rules.specs.Names.{is_here}
 use Rattle.sy_rules.specs.Objects.{object_row, fit_vector, fit_device_vector, is_submitted, arguments_of}
 use Rattle.sy_rules.specs.Seen.{when, fails, passes, is_known, is_reducer, kind_of, same_kind, same_dimensions, no_integer, no_target, unread, unwritten}
@@ -120,19 +123,14 @@ same_type thing.Event thing.Event = true
 same_type thing.DeviceVector thing.DeviceVector = true
 same_type _ _ = false
 
--- what the names of one `auto` share so far: nothing is known yet, this type, or a name that differs was told
-pub data Shared : Type 0 where
-  unknown : Shared
-  shared : Thing → Shared
-  told : Shared
-
+-- what the names of one `auto` share so far
 abbrev pub differs_from : Shared → Thing → Bool
-differs_from (shared f) t = not (same_type f t)
+differs_from (shared.Type f) t = not (same_type f t)
 differs_from _ t = false
 
 abbrev pub shared_after : Shared → Option Thing → Shared
-shared_after unknown (Some t) = shared t
-shared_after (shared f) (Some t) = if same_type f t then shared f else told
+shared_after shared.Unknown (Some t) = shared.Type t
+shared_after (shared.Type f) (Some t) = if same_type f t then shared.Type f else shared.Differs
 shared_after sh _ = sh
 
 -- BadDeclaration: `auto` has nothing to take its type from, or is the first with another one than the first name's

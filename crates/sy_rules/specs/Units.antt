@@ -41,6 +41,7 @@ use Rattle.sy_rules.specs.declared.names.Taken.TheVariants as taken
 use Rattle.sy_rules.specs.declared.names.Within.{Within}
 use Rattle.sy_rules.specs.declared.names.Within.TheVariants as within
 use Rattle.sy_rules.specs.declared.seen.Constant.TheVariants as constant
+use Rattle.sy_rules.specs.declared.statements.Shared.TheVariants as shared
 use Rattle.sy_rules.specs.ExprRules.{if_written, wide_literal, no_dimension}
 use Rattle.sy_rules.specs.ExprTypes.{typed, variable}
 use Rattle.sy_rules.specs.Faults.{at}
@@ -48,7 +49,7 @@ use Rattle.sy_rules.specs.Names.{declared_variable, with_entry, in_setting, scop
 use Rattle.sy_rules.specs.Objects.{element_dimensions, elements_of}
 use Rattle.sy_rules.specs.Outcome.{Finding, held, calls, Outcome, Look, outcome, and_then, after, known_as, in_turn, faults_found, all_broken}
 use Rattle.sy_rules.specs.Seen.{when, same_kind}
-use Rattle.sy_rules.specs.StmtRules.{unknown, Given, redeclared}
+use Rattle.sy_rules.specs.StmtRules.{Given, redeclared}
 use Rattle.sy_rules.specs.Walk.{Dr, Bl, part, declared_value, declarator_of, block}
 use Rattle.sy_rules.specs.Words.{main_name}
 
@@ -123,7 +124,7 @@ one_function f b n =
 
 -- a constant of the file, whose initializer has to be one
 abbrev pub constant_as : Constant → Lexeme → Given → Typed → Look TypedConstant
-constant_as c x i a n = known_as (λ p. p.1) (declared_value true (Some c.specifier) c.of unknown x i (λ v. record { variable = v; initializer = a }) n)
+constant_as c x i a n = known_as (λ p. p.1) (declared_value true (Some c.specifier) c.of shared.Unknown x i (λ v. record { variable = v; initializer = a }) n)
 
 abbrev pub no_initializer : Spot → Typed
 no_initializer s = typed (node.Boolean false) None s

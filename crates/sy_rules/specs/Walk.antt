@@ -61,29 +61,33 @@ use Rattle.sy_rules.specs.declared.names.Within.TheVariants as within
 use Rattle.sy_rules.specs.declared.seen.Constant.TheVariants as constant
 use Rattle.sy_rules.specs.declared.seen.Seen.{Seen}
 use Rattle.sy_rules.specs.declared.seen.SeenLambda.{SeenLambda}
+use Rattle.sy_rules.specs.declared.library.Role.{Role}
+use Rattle.sy_rules.specs.declared.library.Role.TheVariants as role
+use Rattle.sy_rules.specs.declared.seen.SeenArgument.{SeenArgument}
+use Rattle.sy_rules.specs.declared.seen.SeenArgument.TheVariants as seen
+use Rattle.sy_rules.specs.declared.seen.SeenInitializer.{SeenInitializer}
+use Rattle.sy_rules.specs.declared.seen.SeenInitializer.TheVariants as seen_initializer
+use Rattle.sy_rules.specs.declared.statements.Shared.{Shared}
+use Rattle.sy_rules.specs.declared.statements.Shared.TheVariants as shared
+use Rattle.sy_rules.specs.declared.statements.Standing.{Standing}
+use Rattle.sy_rules.specs.declared.statements.Standing.TheVariants as standing
 use Rattle.sy_rules.specs.ExprRules.{is_equality, is_misused_in}
 use Rattle.sy_rules.specs.ExprTypes.{seen_as, found_at, typed, named_node, called_number, member_or_wait, variable, is_empty, kind_written, use_of}
 use Rattle.sy_rules.specs.Faults.{at}
 use Rattle.sy_rules.specs.Foreign.{is_host, is_made_in, made_in_kernels, made_in_groups, foreign_everywhere, type_start, type_word}
 use Rattle.sy_rules.specs.Lambdas.{listed_faults, thread_scope, parameter_type, lambda_parameter_faults, bad_lambda, first_dimensions, listed, is_integer_type, copy_of, reference_to, captures_given}
-use Rattle.sy_rules.specs.Layers.{Skipped, SeenArgument, SeenExpr, SeenFull, SeenInitializer, SeenStmt}
-use Rattle.sy_rules.specs.Literals.{number_written, character_value, string_bytes_of}
-use Rattle.sy_rules.specs.Members.{Role, a_group, a_thread, a_kernel, member_role}
+use Rattle.sy_rules.specs.Layers.{Skipped, SeenExpr, SeenFull, SeenStmt}
+use Rattle.sy_rules.specs.Constants.{literal_value, number_in}
+use Rattle.sy_rules.specs.Literals.{character_value, string_bytes_of}
+use Rattle.sy_rules.specs.Members.{member_role}
 use Rattle.sy_rules.specs.Names.{look_up, declared, declared_as, declared_variable, with_entry, in_setting, where_taken, scoped}
 use Rattle.sy_rules.specs.Objects.{object_row, arguments_of}
 use Rattle.sy_rules.specs.Outcome.{Finding, Outcome, Look, outcome, plainly, after, and_then, known_as, in_turn, faults_found, foreign_in, at_statement, all_broken, all_used}
 use Rattle.sy_rules.specs.Seen.{when, fails, passes, no_integer, unread}
-use Rattle.sy_rules.specs.StmtRules.{Shared, unknown, shared_after, full_faults, Given, declarator_faults, declared_type, declared_constant, object_faults, vector_faults, device_vector_faults, plain_faults, goes_over, element_given, stmt_faults}
+use Rattle.sy_rules.specs.StmtRules.{shared_after, full_faults, Given, declarator_faults, declared_type, declared_constant, object_faults, vector_faults, device_vector_faults, plain_faults, goes_over, element_given, stmt_faults}
 use Rattle.sy_rules.specs.Words.{error_named, member_named}
 
 -- ---- what each sort of tree is looked at as
-
--- a statement in a list opens a scope if it is a block; one that is a body, or the rest of a scope, opens none; one in
--- the head of a `for` belongs to that
-pub data Standing : Type 0 where
-  in_list : Standing
-  as_body : Standing
-  in_head : Standing
 
 abbrev pub Ex : Type 0
 Ex = Look (Seen × Typed)
@@ -153,13 +157,13 @@ abbrev pub nowhere : Spot
 nowhere = record { line = 1; column = 1 }
 
 abbrev pub untaken : SeenArgument × TypedArgument
-untaken = (Argument-F.Lambda (record { is_sound = true; dimensions = None }), argument.Lambda (roll-TypedLambda (record { spot = nowhere; number = 0; captures = []; parameters = []; body = roll-TypedBlock (record { statements = []; close = nowhere }) })))
+untaken = (seen.Lambda (record { is_sound = true; dimensions = None }), argument.Lambda (roll-TypedLambda (record { spot = nowhere; number = 0; captures = []; parameters = []; body = roll-TypedBlock (record { statements = []; close = nowhere }) })))
 
 abbrev pub one_argument : Taken → Option Role → Ar → Look (SeenArgument × TypedArgument)
-one_argument k r (Argument-F.Value a) n = known_as (λ p. (Argument-F.Value p.0, argument.Value p.1)) (where_taken k a n)
-one_argument k r (Argument-F.Braced s xs e) n = known_as (λ ps. (Argument-F.Braced s (map seen_of ps) e, argument.Braced (map typed_of ps) e)) (parts xs n)
+one_argument k r (Argument-F.Value a) n = known_as (λ p. (seen.Value p.0, argument.Value p.1)) (where_taken k a n)
+one_argument k r (Argument-F.Braced s xs e) n = known_as (λ ps. (seen.Braced (map seen_of ps), argument.Braced (map typed_of ps) e)) (parts xs n)
 one_argument k None (Argument-F.Lambda l) n = plainly untaken n
-one_argument k (Some r) (Argument-F.Lambda l) n = known_as (λ p. (Argument-F.Lambda p.0, argument.Lambda p.1)) (l r n)
+one_argument k (Some r) (Argument-F.Lambda l) n = known_as (λ p. (seen.Lambda p.0, argument.Lambda p.1)) (l r n)
 
 -- `role` says what a lambda is for, behind the arguments before it
 abbrev pub arguments : Taken → (List SeenArgument → Option Role) → List SeenArgument → List Ar → Look (List SeenArgument × List TypedArgument)
@@ -234,7 +238,7 @@ member_call a x t xs e n =
     (λ q. judged (Expr-F.MemberCall p.0 x t q.0 e) (node.MemberCall p.1 (member_or_wait x.text) q.1 e) x.spot))
 
 abbrev pub expr_step : Expr-F Ar De Dr Ex Fu In Pr St Bl La → Ex
-expr_step (Expr-F.Integer x) = judged (Expr-F.Integer x) (node.Integer (pos (number_written x.text))) x.spot
+expr_step (Expr-F.Integer x) = judged (Expr-F.Integer x) (node.Integer (number_in (literal_value x.text))) x.spot
 expr_step (Expr-F.Character x) = judged (Expr-F.Character x) (node.Character (pos (character_value x.text))) x.spot
 expr_step (Expr-F.Boolean s b) = judged (Expr-F.Boolean s b) (node.Boolean b) s
 expr_step (Expr-F.Name x) = λ n. judged (Expr-F.Name x) (named_node n.setting.kernel (look_up n.entries x.text)) x.spot n
@@ -312,9 +316,9 @@ start_of None t = start_of_type t
 -- ---- declared objects
 
 abbrev pub one_initializer : Taken → In → Look (Option SeenInitializer × Option TypedInitializer)
-one_initializer k (Initializer-F.Copy s a) n = known_as (λ p. (Some (Initializer-F.Copy s p.0), Some (initializer.Copy p.1))) (where_taken k a n)
+one_initializer k (Initializer-F.Copy s a) n = known_as (λ p. (Some (seen_initializer.Copy p.0), Some (initializer.Copy p.1))) (where_taken k a n)
 one_initializer k (Initializer-F.Direct b s xs e) n =
-    known_as (λ p. (Some (Initializer-F.Direct b s p.0 e), Some (initializer.Direct b p.1 e))) (arguments k no_role [] xs n)
+    known_as (λ p. (Some (seen_initializer.Direct b p.0), Some (initializer.Direct b p.1 e))) (arguments k no_role [] xs n)
 
 abbrev pub initialized : Taken → Option In → Look (Option SeenInitializer × Option TypedInitializer)
 initialized k None n = plainly (None, None) n
@@ -335,7 +339,7 @@ foreign_object t = foreign_in (not (made_in_kernels t)) within.Kernel ++ foreign
 
 abbrev pub declaration_step : Declaration-F Ar De Dr Ex Fu In Pr St Bl La → De
 declaration_step (Declaration-F.Integers c t ds e) = λ n.
-    known_as (λ xs. (start_of c t, declaration.Values xs e)) (declarators (is_constexpr c) c t unknown ds n)
+    known_as (λ xs. (start_of c t, declaration.Values xs e)) (declarators (is_constexpr c) c t shared.Unknown ds n)
 declaration_step (Declaration-F.Vector q t x i e) = λ n.
     and_then (initialized taken.Nothing i n)
     (λ p m. declared_object (is_host m.setting.within) (vector_faults m t.kind x p.0) foreign_everywhere (Some (thing.Vector t.kind)) q.namespace x (λ v. declaration.Vector v p.1 e) m)
@@ -345,7 +349,7 @@ declaration_step (Declaration-F.DeviceVector q x i e) = λ n.
 declaration_step (Declaration-F.ThreadVector q x e) = λ n.
     declared_object (is_host n.setting.within) (plain_faults n x) foreign_everywhere (Some thing.ThreadVector) q.namespace x (λ v. declaration.ThreadVector v e) n
 declaration_step (Declaration-F.Thread q x b l e) = λ n.
-    and_then (l (a_thread n.next) n)
+    and_then (l (role.Thread n.next) n)
     (λ p m. declared_object (is_host m.setting.within) (plain_faults m x) foreign_everywhere (Some thing.Thread) q.namespace x (λ v. declaration.Thread v p.1 e) m)
 declaration_step (Declaration-F.Object t x i e) = λ n.
     and_then (initialized (taken_by_object t) i n)
@@ -355,7 +359,7 @@ declaration_step (Declaration-F.Object t x i e) = λ n.
 
 -- what a statement of this place finds; one in the head of a `for` leaves its uses to that
 abbrev pub placed_at : Standing → Spot → Names → Outcome TypedStmt → Outcome TypedStmt
-placed_at in_head s n o = o
+placed_at standing.InHead s n o = o
 placed_at _ s n o = at_statement n.setting.within s o
 
 abbrev pub stmt_judged : SeenStmt → TypedStmt → Look TypedStmt
@@ -363,7 +367,7 @@ stmt_judged x t n = outcome t (faults_found (stmt_faults n.setting x)) n
 
 -- a body is a scope, be it a block or not
 abbrev pub body : St → Look TypedStmt
-body s n = scoped (s as_body) n
+body s n = scoped (s standing.AsBody) n
 
 abbrev pub looped : {T : Type 0} → Look T → Look T
 looped a n = in_setting (λ s. record s { in_loop = true }) a n
@@ -405,10 +409,10 @@ do_loop s a c e n =
 -- what the head declares belongs to the scope of the body
 abbrev pub for_loop : Spot → St → Option Ex → Option Fu → St → Look TypedStmt
 for_loop s i c f a n =
-    and_then (i in_head n)
+    and_then (i standing.InHead n)
     (λ x m. and_then (maybe part c m)
     (λ p k. and_then (maybe (λ g. g false) f k)
-    (λ q j. and_then (looped (a as_body) j)
+    (λ q j. and_then (looped (a standing.AsBody) j)
     (λ y. stmt_judged (Stmt-F.For s tt (first_seen p) None tt) (typed_stmt.For s x (first_typed p) (full_typed q) y)))))
 
 -- ---- range-for
@@ -443,7 +447,7 @@ abbrev pub range_for_over : Spot → Bool → TypeSpecifier → Bool → Lexeme 
 range_for_over s c t r x v found a n =
     after (range_found n c t r x v found)
     (known_as (λ y. typed_stmt.RangeFor s (variable n.next (element_given t (ranged_type found)) x.spot) r (ranged_variable found v.spot) y)
-    (looped (a as_body) (ranged_name r x (element_given t (ranged_type found)) (c || (r && ranged_fixed found)) n)))
+    (looped (a standing.AsBody) (ranged_name r x (element_given t (ranged_type found)) (c || (r && ranged_fixed found)) n)))
 
 abbrev pub range_for : Spot → Bool → TypeSpecifier → Bool → Lexeme → Lexeme → St → Look TypedStmt
 range_for s c t r x v a n = range_for_over s c t r x v (look_up n.entries v.text) a n
@@ -460,7 +464,7 @@ trying s a x b n =
 -- ---- one clause for each statement
 
 abbrev pub block_as : Standing → Bl → Look TypedBlock
-block_as as_body b n = b n
+block_as standing.AsBody b n = b n
 block_as _ b n = scoped b n
 
 abbrev pub declared_at : Standing → Names → Outcome (Spot × TypedDeclaration) → Outcome TypedStmt
@@ -487,7 +491,7 @@ stmt_step (Stmt-F.RangeFor s c t r x v a) = λ own n. placed_at own s n (scoped 
 stmt_step (Stmt-F.Try s a x b) = λ own n. placed_at own s n (trying s a x b n)
 
 abbrev pub block_step : Block-F Ar De Dr Ex Fu In Pr St Bl La → Bl
-block_step b = λ n. known_as (λ xs. roll-TypedBlock (record { statements = xs; close = b.close })) (in_turn (map (λ s. s in_list) b.statements) n)
+block_step b = λ n. known_as (λ xs. roll-TypedBlock (record { statements = xs; close = b.close })) (in_turn (map (λ s. s standing.InList) b.statements) n)
 
 -- ---- printed items: integers, texts and ends of lines
 
@@ -497,8 +501,8 @@ printed_faults a = at code.WrongOperand (no_integer a) ++ at code.ModeBroken (un
 abbrev pub printed_step : Printed-F Ar De Dr Ex Fu In Pr St Bl La → Pr
 printed_step (Printed-F.Operand s a) = λ n.
     and_then (part a n) (λ p. outcome (printed.Operand s p.1) (faults_found (printed_faults p.0)))
-printed_step (Printed-F.Text s x) = plainly (printed.Bytes s (string_bytes_of x.text))
-printed_step (Printed-F.EndLine s q) = plainly (printed.EndLine s)
+printed_step (Printed-F.Text s x) = plainly (printed.Bytes s (string_bytes_of x.text) x.spot)
+printed_step (Printed-F.EndLine s q) = plainly (printed.EndLine s q.name)
 
 -- ---- lambdas
 
@@ -543,9 +547,9 @@ one_lambda_parameter r p n =
 
 -- where the body of a lambda stands, with so many scopes outside it
 abbrev pub inside : Role → ℕ → Setting → Setting
-inside a_group d s = record s { within = within.Group; returned = None; in_loop = false; taken = taken.Nothing }
-inside (a_thread v) d s = record s { returned = None; in_loop = false; taken = taken.Nothing }
-inside (a_kernel i r) d s = record s { within = within.Kernel; returned = None; in_loop = false; kernel = Some d; taken = taken.Nothing }
+inside role.Group d s = record s { within = within.Group; returned = None; in_loop = false; taken = taken.Nothing }
+inside (role.Thread v) d s = record s { returned = None; in_loop = false; taken = taken.Nothing }
+inside (role.Kernel i r) d s = record s { within = within.Kernel; returned = None; in_loop = false; kernel = Some d; taken = taken.Nothing }
 
 abbrev pub within_thread : Option ThreadScope → Names → Names
 within_thread None n = n

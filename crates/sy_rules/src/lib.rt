@@ -3,11 +3,15 @@
 #![tactic(auto)]
 
 pub mod laws;
+mod library;
 mod names;
 mod seen;
+mod statements;
 
+pub use library::{Fit, KernelIndex, Role, Row, Wanted};
 pub use names::{
     Entries, Entry, Named, Names, Parameters, Passed, Setting, Signature, Signatures, Taken,
     ThreadScope, Threads, Within,
 };
-pub use seen::{Constant, Denotes, Seen, SeenLambda};
+pub use seen::{Constant, Denotes, Seen, SeenArgument, SeenInitializer, SeenLambda};
+pub use statements::{Shared, Standing};

@@ -1,7 +1,9 @@
 //! What the rules see of an expression.
 
+use sqlite_items::Items;
 use sy_access::Mode;
 use sy_note::Spot;
+use sy_tree::Brackets;
 use sy_typed::{Dimensions, Thing};
 
 /// What can be done with an expression but reading it.
@@ -46,4 +48,19 @@ pub struct Seen {
 pub struct SeenLambda {
     pub is_sound: bool,
     pub dimensions: Option<Dimensions>,
+}
+
+/// What is seen of an argument: of a value, of the values in braces, or of a lambda.
+#[derive(Drop)]
+pub enum SeenArgument {
+    Value(Seen),
+    Braced(Items<Seen>),
+    Lambda(SeenLambda),
+}
+
+/// What is seen of an initializer: of the value behind `=`, or of the arguments in brackets.
+#[derive(Drop)]
+pub enum SeenInitializer {
+    Copy(Seen),
+    Direct(Brackets, Items<SeenArgument>),
 }
