@@ -10,7 +10,7 @@ use Rattle.sy_rules.specs.declared.names.Within.TheVariants as within
 use Rattle.sy_rules.specs.Faults.{sooner}
 use Rattle.sy_rules.specs.Outcome.{Finding, broken, foreign, held, calls, uses, placed, placed_in, all_broken, broken_of, faults_found}
 use Rattle.sy_findings.specs.Told.{told}
-use Rattle.sy_constructs.proofs.SoundLemmas.{nothing_told, one_told}
+use Rattle.sy_constructs.proofs.SoundLemmas.{nothing_told, one_told, told_as_first}
 
 pub noted_append : (t : Notes) (xs ys : List Finding) → noted t (xs ++ ys) ≡ noted (noted t xs) ys
 noted_append t [] ys = refl
@@ -85,3 +85,35 @@ nothing_more p t ds e = ap (λ f. record t { first = f }) (nothing_told t.first 
 
 pub one_more : (p : Option Place) (t : Notes) (d : Diagnostic) (ds : List Diagnostic) → Some d ≡ told None ds → record t { first = sooner t.first (Some d) } ≡ found_in p t (faults_found ds)
 one_more p t d ds e = ap (λ f. record t { first = f }) (one_told t.first d ds e) ∙ sym (faults_in p t ds)
+
+-- ---- what a part finds, apart from what was found before it
+
+pub or_none : (f : Option Diagnostic) → f ≡ sooner f None
+or_none None = refl
+or_none (Some d) = refl
+
+-- the rule that is told first matters to itself alone
+others : (t : Notes) (f g : Option Diagnostic) (xs : List Finding)
+    → noted (record t { first = f }) xs ≡ record (noted (record t { first = g }) xs) { first = (noted (record t { first = f }) xs).first }
+others t f g [] = refl
+others t f g (broken d ∷ xs) = others t (sooner f (Some d)) (sooner g (Some d)) xs
+others t f g (foreign u ∷ xs) = others t f g xs
+others t f g (held within.Host s ∷ xs) = others t f g xs
+others t f g (held within.Kernel s ∷ xs) = others (held_for within.Kernel s t) f g xs
+others t f g (held within.Group s ∷ xs) = others (held_for within.Group s t) f g xs
+others t f g (calls w i ∷ xs) = others (note t (calls w i)) f g xs
+others t f g (uses v ∷ xs) = others (note t (uses v)) f g xs
+
+apart : (t : Notes) (f : Option Diagnostic) (xs : List Finding)
+    → noted (record t { first = f }) xs ≡ record (noted (record t { first = None }) xs) { first = sooner f (noted (record t { first = None }) xs).first }
+apart t f xs =
+    others t f None xs
+    ∙ ap (λ x. record (noted (record t { first = None }) xs) { first = x })
+    (first_noted (record t { first = f }) xs ∙ told_as_first f (all_broken xs) ∙ ap (sooner f) (sym (first_noted (record t { first = None }) xs)))
+
+pub put_back : (p : Option Place) (t : Notes) (xs : List Finding) (aside : Option Diagnostic) (old : Notes)
+    → aside ≡ t.first → old ≡ found_in p (record t { first = None }) xs → record old { first = sooner aside old.first } ≡ found_in p t xs
+put_back p t xs aside old a e =
+    ap (λ (o : Notes). record o { first = sooner aside o.first }) e
+    ∙ ap (λ f. record (found_in p (record t { first = None }) xs) { first = sooner f (found_in p (record t { first = None }) xs).first }) a
+    ∙ sym (apart t t.first (flat_map (placed_by p) xs))

@@ -3,14 +3,16 @@
 ghost use Rattle.std.specs.Prelude.{◌≡◌, [], ◌∷◌, List, Option, None, OnOk, OnErr};
 ghost use Rattle.sy_constructs.specs.Uses.{foreign_found, used, called};
 ghost use Rattle.sy_findings.specs.Told.{told};
-ghost use Rattle.sy_found.specs.Noted.{nothing_noted, held_for, found_in};
+ghost use Rattle.sy_found.specs.Noted.{Notes, nothing_noted, held_for, found_in};
 ghost use Rattle.sy_found.specs.declared.parts.Place.{Place as ThePlace};
 ghost use Rattle.sy_note.specs.declared.Diagnostic.{Diagnostic as Broken};
-ghost use Rattle.sy_rules.specs.Outcome.{foreign, faults_found};
+ghost use Rattle.sy_rules.specs.Faults.{sooner};
+ghost use Rattle.sy_rules.specs.Outcome.{Finding, foreign, faults_found};
 
 use crate::parts::{Call, Place};
 use std::alloc::{AllocError, Global};
 use std::marker::Model;
+use std::mem;
 use sy_constructs::Foreign;
 use sy_findings::Findings;
 use sy_note::{Code, Diagnostic, Spot};
@@ -32,6 +34,17 @@ impl Model for Found {
     ghost Value = { Notes };
 
     ghost view = { λ f. record { first = f.first; for_kernels = f.for_kernels; for_groups = f.for_groups; calls = f.calls.items; used = f.used.items } };
+}
+
+/// Tells the rule, if one is broken.
+#[tactic(auto, using(crate::proofs::FoundLemmas::or_none))]
+fn tell_also(findings: &mut Findings, broken: Option<Diagnostic>)
+    ensures { findings.new ≡ sooner findings.old broken }
+{
+    match broken {
+        None => {}
+        Some(d) => findings.tell(d.code, d.spot),
+    }
 }
 
 impl Found {
@@ -122,5 +135,49 @@ impl Found {
         ensures { result ≡ self.now.first }
     {
         self.first.first()
+    }
+
+    /// What is told first if a kernel calls the function.
+    pub fn for_kernels(&self) -> Option<Diagnostic>
+        ensures { result ≡ self.now.for_kernels }
+    {
+        self.for_kernels.first()
+    }
+
+    /// What is told first if a group calls the function.
+    pub fn for_groups(&self) -> Option<Diagnostic>
+        ensures { result ≡ self.now.for_groups }
+    {
+        self.for_groups.first()
+    }
+
+    /// What is called, in the order of the source.
+    pub fn calls(&self) -> &[Call]
+        ensures { result.now ≡ self.now.calls }
+    {
+        &self.calls
+    }
+
+    /// The local variables that are used, in the order of the source.
+    pub fn used(&self) -> &[Named]
+        ensures { result.now ≡ self.now.used }
+    {
+        &self.used
+    }
+
+    /// Puts the broken rule aside that is told first, so that a part's own can be told from it.
+    pub fn set_aside(&mut self) -> Findings
+        ensures first { result ≡ self.old.first }
+        ensures others { self.new ≡ record self.old { first = None } }
+    {
+        mem::replace(&mut self.first, Findings::new())
+    }
+
+    /// Puts back what was put aside before a part of the source.
+    pub fn put_back(&mut self, aside: Findings)
+        ensures { (p : Option ThePlace) (t : Notes) (xs : List Finding) → aside ≡ t.first → self.old ≡ found_in p (record t { first = None }) xs → self.new ≡ found_in p t xs }
+    {
+        let own = mem::replace(&mut self.first, aside);
+        tell_also(&mut self.first, own.first());
     }
 }
