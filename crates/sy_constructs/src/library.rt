@@ -22,6 +22,7 @@ use crate::leaves::is_compared;
 use crate::literals::{no_dimension, wide_literal};
 use crate::settings::{is_group, is_host, is_kernel};
 use crate::whole::{is_known, settle, value};
+use sqlite_items::Boxed;
 use sy_findings::Findings;
 use sy_library::{
     is_const, is_made_in, is_reduction_call, library_row, made_in_host, member_named, member_row,
@@ -233,7 +234,7 @@ pub fn library_call(
 fn member_of(
     what: Option<Thing>,
     x: &Lexeme,
-    t: &Option<TemplateArgument>,
+    t: &Option<Boxed<TemplateArgument>>,
     xs: &[SeenArgument],
 ) -> Option<Row>
     ensures { result ≡ member_of what x.now t.now xs.now }
@@ -354,7 +355,7 @@ pub fn member_call(
     findings: &mut Findings,
     a: Seen,
     x: &Lexeme,
-    t: &Option<TemplateArgument>,
+    t: &Option<Boxed<TemplateArgument>>,
     xs: &[SeenArgument],
     end: Spot,
 ) -> Seen

@@ -3,9 +3,10 @@
 ghost use Rattle.std.specs.Prelude.{◌≡◌, codes, drop, if◌then◌else◌, Some};
 ghost use Rattle.std.specs.Str.{bytes_eq};
 ghost use Rattle.sy_rules.specs.Members.{is_about, names_a_kernel, are_absent, has_its_words, row_with};
-ghost use Rattle.sy_rules.specs.Words.{looked_up, error_names, error_named, member_names, member_named};
+ghost use Rattle.sy_rules.specs.Words.{is_information, looked_up, error_names, error_named, member_names, member_named};
 
 use crate::fits::{arguments_if, both};
+use sqlite_items::Boxed;
 use sy_rules::Row;
 use sy_tree::TemplateArgument;
 use sy_typed::{ErrorName, Member};
@@ -130,43 +131,58 @@ pub fn member_named(text: &[u8]) -> Option<Member>
 
 // ---- the words in `< >` behind a member
 
+/// `info::topic::word`
+fn is_information(topic: &[u8], word: &[u8], t: &TemplateArgument) -> bool
+    ensures { result ≡ is_information topic.now word.now t.now }
+{
+    match t {
+        TemplateArgument::Kernel(_, _) => false,
+        TemplateArgument::Information(_, a, b) => {
+            is_word(topic, a.text.items()) && is_word(word, b.text.items())
+        }
+    }
+}
+
 /// `info::device::max_compute_units`
-fn asks_for_units(t: &Option<TemplateArgument>) -> bool
+fn asks_for_units(t: &Option<Boxed<TemplateArgument>>) -> bool
     ensures { result ≡ is_about (codes "device") (codes "max_compute_units") t.now }
 {
     match t {
-        Some(TemplateArgument::Information(_, of, word)) => {
-            is_word(b"device", of.text.items()) && is_word(b"max_compute_units", word.text.items())
-        }
-        _ => false,
+        None => false,
+        Some(t) => is_information(b"device", b"max_compute_units", t.get()),
     }
 }
 
 /// `info::partition_property::partition_equally`
-fn asks_for_equal_parts(t: &Option<TemplateArgument>) -> bool
+fn asks_for_equal_parts(t: &Option<Boxed<TemplateArgument>>) -> bool
     ensures { result ≡ is_about (codes "partition_property") (codes "partition_equally") t.now }
 {
     match t {
-        Some(TemplateArgument::Information(_, of, word)) => {
-            is_word(b"partition_property", of.text.items())
-                && is_word(b"partition_equally", word.text.items())
-        }
-        _ => false,
+        None => false,
+        Some(t) => is_information(b"partition_property", b"partition_equally", t.get()),
     }
 }
 
-fn names_a_kernel(t: &Option<TemplateArgument>) -> bool
+fn is_kernel_name(t: &TemplateArgument) -> bool
+    ensures { result ≡ names_a_kernel (Some t.now) }
+{
+    match t {
+        TemplateArgument::Kernel(_, _) => true,
+        TemplateArgument::Information(_, _, _) => false,
+    }
+}
+
+fn names_a_kernel(t: &Option<Boxed<TemplateArgument>>) -> bool
     ensures { result ≡ names_a_kernel t.now }
 {
     match t {
         None => true,
-        Some(TemplateArgument::Kernel(_, _)) => true,
-        Some(TemplateArgument::Information(_, _, _)) => false,
+        Some(t) => is_kernel_name(t.get()),
     }
 }
 
 /// The member has the words in `< >` that it takes.
-pub fn has_its_words(member: Member, t: &Option<TemplateArgument>) -> bool
+pub fn has_its_words(member: Member, t: &Option<Boxed<TemplateArgument>>) -> bool
     ensures { result ≡ has_its_words member t.now }
 {
     match member {
@@ -179,7 +195,11 @@ pub fn has_its_words(member: Member, t: &Option<TemplateArgument>) -> bool
 }
 
 /// The row of a member with these words.
-pub fn row_with(t: &Option<TemplateArgument>, member: Member, found: Option<Row>) -> Option<Row>
+pub fn row_with(
+    t: &Option<Boxed<TemplateArgument>>,
+    member: Member,
+    found: Option<Row>,
+) -> Option<Row>
     ensures { result ≡ row_with t.now member found }
 {
     match found {

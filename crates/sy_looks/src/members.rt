@@ -1,6 +1,6 @@
 //! Calls of members. (SYCL 2020, "SYCL programming interface")
 
-ghost use Rattle.std.specs.Prelude.{◌≡◌, IfOk};
+ghost use Rattle.std.specs.Prelude.{◌≡◌};
 ghost use Rattle.sy_looks.specs.Looked.{Looked, looked};
 ghost use Rattle.sy_rules.specs.ExprTypes.{member_or_wait};
 ghost use Rattle.sy_rules.specs.Walk.{judged};
@@ -11,53 +11,13 @@ use crate::settle::judge;
 use crate::steps::beside;
 use crate::walk::{Arguments, Part, Walk};
 use sqlite_items::Boxed;
-use std::alloc::{AllocError, Global};
+use std::alloc::AllocError;
 use sy_constructs::{member_call, member_or_wait};
 use sy_findings::Findings;
-use sy_lex::Text;
 use sy_note::Spot;
 use sy_rules::Seen;
 use sy_tree::{Lexeme, TemplateArgument};
 use sy_typed::{Typed, TypedNode};
-
-fn word_copy(alloc: Global, x: &Lexeme) -> Result<Lexeme, AllocError>
-    ensures { IfOk result (λ r. r ≡ x.now) }
-{
-    let text = Text::copied(alloc, x.text.items())?;
-    Ok(Lexeme { spot: x.spot, text })
-}
-
-fn template_copy(alloc: Global, t: &TemplateArgument) -> Result<TemplateArgument, AllocError>
-    ensures { IfOk result (λ r. r ≡ t.now) }
-{
-    match t {
-        TemplateArgument::Kernel(with_class, x) => {
-            let x = word_copy(alloc, x)?;
-            Ok(TemplateArgument::Kernel(*with_class, x))
-        }
-        TemplateArgument::Information(q, x, y) => {
-            let x = word_copy(alloc, x)?;
-            let (x, y) = beside(x, word_copy(alloc, y))?;
-            Ok(TemplateArgument::Information(*q, x, y))
-        }
-    }
-}
-
-/// The template argument outside its box.
-fn unboxed(
-    alloc: Global,
-    t: &Option<Boxed<TemplateArgument>>,
-) -> Result<Option<TemplateArgument>, AllocError>
-    ensures { IfOk result (λ r. r ≡ t.now) }
-{
-    match t {
-        None => Ok(None),
-        Some(t) => {
-            let t = template_copy(alloc, t.get())?;
-            Ok(Some(t))
-        }
-    }
-}
 
 /// A call of a member, with its object in a box.
 fn judge_member(
@@ -65,7 +25,7 @@ fn judge_member(
     a: Seen,
     object: Boxed<Typed>,
     x: &Lexeme,
-    t: &Option<TemplateArgument>,
+    t: &Option<Boxed<TemplateArgument>>,
     xs: Arguments,
     e: Spot,
 ) -> Part
@@ -92,6 +52,5 @@ pub fn judge_member_call(
 {
     let (a, object) = a;
     let (xs, object) = beside(xs, Boxed::new(w.alloc, object))?;
-    let ((xs, object), t) = beside((xs, object), unboxed(w.alloc, t))?;
-    Ok(judge_member(w, a, object, x, &t, xs, e))
+    Ok(judge_member(w, a, object, x, t, xs, e))
 }
