@@ -14,19 +14,19 @@ returns c =
     let q = c.args.q in
     let fit = c.args.fit in
     let xs = c.args.xs.now in
-    let f = c.args.findings.now in
-    let f1 = c.wrong_dimension.new.findings in
-    let f2 = c.wrong_arguments.new.findings in
-    let f3 = c.wrong_element.new.findings in
-    let f4 = c.arguments_read.new.findings in
-    let f5 = c.tell_if.new.self in
-    let d1 = at code.BadDimension (when (is_wrong_dimension fit) q.name) in
-    let d2 = at code.WrongArguments (when (is_wrong_arguments fit) q.name) in
-    let d3 = at code.BadElement (when (is_wrong_element fit) q.name) in
-    let d4 = at code.ModeBroken (unread_arguments xs) in
-    let d5 = at code.NotInHost (when (not_for_host w c.args.function) q.namespace) in
-    let last : f5 ≡ told f4 d5 = c.tell_if.ensures ∙ ap (λ b. told f4 (at code.NotInHost (when b q.namespace))) c.not_for_host-is_outside.ensures in
-    told_on f f1 f5 d1 (d2 ++ (d3 ++ (d4 ++ (d5 ++ [])))) c.wrong_dimension.ensures
-    (told_on f1 f2 f5 d2 (d3 ++ (d4 ++ (d5 ++ []))) c.wrong_arguments.ensures
-    (told_on f2 f3 f5 d3 (d4 ++ (d5 ++ [])) c.wrong_element.ensures
-    (told_on f3 f4 f5 d4 (d5 ++ []) c.arguments_read.ensures (told_last f4 f5 d5 last))))
+    let before = c.args.findings.now in
+    let past_dimension = c.wrong_dimension.new.findings in
+    let past_arguments = c.wrong_arguments.new.findings in
+    let past_element = c.wrong_element.new.findings in
+    let past_reads = c.arguments_read.new.findings in
+    let after = c.tell_if.new.self in
+    let dimension = at code.BadDimension (when (is_wrong_dimension fit) q.name) in
+    let arguments = at code.WrongArguments (when (is_wrong_arguments fit) q.name) in
+    let element = at code.BadElement (when (is_wrong_element fit) q.name) in
+    let reads = at code.ModeBroken (unread_arguments xs) in
+    let outside = at code.NotInHost (when (not_for_host w c.args.function) q.namespace) in
+    let last : after ≡ told past_reads outside = c.tell_if.ensures ∙ ap (λ b. told past_reads (at code.NotInHost (when b q.namespace))) c.not_for_host-is_outside.ensures in
+    told_on before past_dimension after dimension (arguments ++ (element ++ (reads ++ (outside ++ [])))) c.wrong_dimension.ensures
+    (told_on past_dimension past_arguments after arguments (element ++ (reads ++ (outside ++ []))) c.wrong_arguments.ensures
+    (told_on past_arguments past_element after element (reads ++ (outside ++ [])) c.wrong_element.ensures
+    (told_on past_element past_reads after reads (outside ++ []) c.arguments_read.ensures (told_last past_reads after outside last))))
