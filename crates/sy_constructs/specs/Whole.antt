@@ -1,28 +1,23 @@
 -- What is seen of a construct where no rule is broken in it, and what is left of that elsewhere.
-use Rattle.std.specs.Prelude.{Bool, true, false, ◌&&◌, ◌||◌, not, if◌then◌else◌, List, [], ◌++◌, Option, None, is_none, is_some, flat_map}
+use Rattle.std.specs.Prelude.{Bool, true, false, ◌&&◌, not, if◌then◌else◌, List, [], ◌++◌, Option, None, is_none}
 use Rattle.sy_note.specs.declared.Code.TheVariants as code
 use Rattle.sy_note.specs.declared.Diagnostic.{Diagnostic}
 use Rattle.sy_note.specs.declared.Spot.{Spot}
-use Rattle.sy_tree.specs.declared.operators.Operator.{Operator}
 use Rattle.sy_tree.specs.declared.parts.Lexeme.{Lexeme}
 use Rattle.sy_tree.specs.declared.parts.Qualified.{Qualified}
 use Rattle.sy_typed.specs.declared.things.Thing.{Thing}
 use Rattle.sy_rules.specs.declared.names.Named.{Named}
-use Rattle.sy_rules.specs.declared.names.Names.{Names}
 use Rattle.sy_rules.specs.declared.names.Setting.{Setting}
 use Rattle.sy_rules.specs.declared.names.Taken.{Taken}
 use Rattle.sy_rules.specs.declared.names.ThreadScope.{ThreadScope}
-use Rattle.sy_rules.specs.declared.names.Within.{Within}
 use Rattle.sy_rules.specs.declared.seen.Constant.{Constant}
-use Rattle.sy_rules.specs.declared.seen.Denotes.{Denotes}
 use Rattle.sy_rules.specs.declared.seen.Denotes.TheVariants as denotes
 use Rattle.sy_rules.specs.declared.seen.Seen.{Seen}
-use Rattle.sy_rules.specs.Calls.{is_group}
-use Rattle.sy_rules.specs.ExprRules.{wrong_operands, is_compared, is_whole_index, is_index_of_another, wrong_index, indexed_dimensions, is_combined_into, is_captured_badly, is_misused_in, is_wrong_call, is_bad_call}
-use Rattle.sy_rules.specs.ExprTypes.{is_empty, if_sound, if_sound_denotes, if_sound_constant, is_element, denotes_element, denotes_name, constant_of_name, variable_numbered}
+use Rattle.sy_rules.specs.ExprRules.{is_compared, is_combined_into, is_captured_badly, is_misused_in}
+use Rattle.sy_rules.specs.ExprTypes.{is_empty, if_sound, if_sound_denotes, if_sound_constant, denotes_name, constant_of_name, variable_numbered}
 use Rattle.sy_rules.specs.Faults.{at}
-use Rattle.sy_rules.specs.Foreign.{is_host, foreign_to, type_of_name}
-use Rattle.sy_rules.specs.Seen.{when, passes, fails, is_integer, is_reducer, no_integer, if_bool, no_target, unread, unwritten}
+use Rattle.sy_rules.specs.Foreign.{foreign_to, type_of_name}
+use Rattle.sy_rules.specs.Seen.{when, passes, is_reducer}
 use Rattle.sy_rules.specs.Words.{error_named}
 
 abbrev pub seen_if : Bool → Seen → Seen
@@ -47,51 +42,7 @@ counted is_foreign ds = if is_foreign then [] else ds
 abbrev pub is_sound_if : Bool → Bool → List Diagnostic → Bool
 is_sound_if is_foreign parts_are_known ds = parts_are_known && (is_empty (counted is_foreign ds) && not is_foreign)
 
--- ---- the rules that operands break
-
-abbrev pub operand_faults : Seen → List Diagnostic
-operand_faults a = at code.WrongOperand (no_integer a) ++ (at code.ModeBroken (unread a) ++ [])
-
-abbrev pub step_faults : Seen → List Diagnostic
-step_faults a =
-    at code.WrongOperand (no_integer a ++ if_bool a)
-    ++ (at code.NotAssignable (no_target a)
-    ++ (at code.ModeBroken (unread a ++ unwritten a) ++ []))
-
-abbrev pub operator_faults : Operator → Seen → Seen → List Diagnostic
-operator_faults op a b = at code.WrongOperand (wrong_operands op a b) ++ (at code.ModeBroken (unread a ++ unread b) ++ [])
-
-abbrev pub choice_faults : Seen → Seen → Seen → List Diagnostic
-choice_faults a b c =
-    at code.WrongOperand (no_integer a ++ (no_integer b ++ no_integer c))
-    ++ (at code.ModeBroken (unread a ++ (unread b ++ unread c)) ++ [])
-
-abbrev pub error_code_faults : Taken → Qualified → Lexeme → List Diagnostic
-error_code_faults t q x =
-    at code.UnknownName (when (is_none (error_named x.text)) x.spot)
-    ++ (at code.WrongOperand (when (not (is_compared t)) q.namespace) ++ [])
-
--- ---- indexes and barriers
-
-abbrev pub is_wrong_index : Seen → Seen → Bool
-is_wrong_index a i = fails is_integer i.what && not (is_whole_index a i || is_index_of_another a i)
-
-abbrev pub index_faults : Seen → Spot → Seen → List Diagnostic
-index_faults a bracket i =
-    at code.BadDimension (when (is_index_of_another a i) i.first)
-    ++ (at code.UnknownMember (when (fails (λ t. is_some (indexed_dimensions t)) a.what) bracket)
-    ++ (at code.WrongOperand (wrong_index a i)
-    ++ (at code.ModeBroken (unread i) ++ [])))
-
-abbrev pub denotes_indexed : Seen → Option Thing → Denotes
-denotes_indexed a t = if passes is_element t then denotes_element a a.what else denotes.Value
-
-abbrev pub barrier_faults : Within → Qualified → Seen → List Diagnostic
-barrier_faults w q a =
-    at code.WrongArguments (when (fails is_group a.what) q.name)
-    ++ (at code.NotInHost (when (is_host w) q.namespace) ++ [])
-
--- ---- names and calls
+-- ---- names and errors
 
 abbrev pub is_wrong_reducer : Taken → Option Named → Bool
 is_wrong_reducer t found = passes is_reducer (type_of_name found) && not (is_combined_into t)
@@ -116,9 +67,7 @@ seen_name s found x = record {
   is_bare = true;
 }
 
-abbrev pub call_faults : Names → Option Named → Spot → List Seen → List Diagnostic
-call_faults n found f xs =
-    at code.UnknownName (when (is_none found) f)
-    ++ (at code.WrongArguments (when (is_wrong_call n found xs) f)
-    ++ (at code.ModeBroken (flat_map unread xs)
-    ++ at code.BadCall (when (is_bad_call n found) f)))
+abbrev pub error_code_faults : Taken → Qualified → Lexeme → List Diagnostic
+error_code_faults t q x =
+    at code.UnknownName (when (is_none (error_named x.text)) x.spot)
+    ++ (at code.WrongOperand (when (not (is_compared t)) q.namespace) ++ [])

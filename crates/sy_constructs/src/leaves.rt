@@ -11,7 +11,7 @@ ghost use Rattle.sy_tree.specs.declared.tree.Argument.TheOpen.{Expr-F};
 
 use crate::whole::{is_known, seen_if, settle, value};
 use sy_findings::Findings;
-use sy_library::error_named;
+use sy_members::error_named;
 use sy_names::Names;
 use sy_note::{Code, Spot};
 use sy_num::Kind;

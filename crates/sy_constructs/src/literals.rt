@@ -12,7 +12,7 @@ ghost use Rattle.sy_tree.specs.declared.tree.Argument.TheOpen.{Expr-F};
 use crate::whole::{settle, value};
 use sy_constants::{character_value, dimensions_written, literal_kind, literal_value};
 use sy_findings::Findings;
-use sy_library::integer_of;
+use sy_fits::integer_of;
 use sy_note::Code;
 use sy_num::Kind;
 use sy_rules::{Constant, Seen};

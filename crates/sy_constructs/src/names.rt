@@ -13,9 +13,9 @@ ghost use Rattle.sy_tree.specs.declared.tree.Argument.TheOpen.{Expr-F};
 
 use crate::whole::settle;
 use sy_findings::Findings;
-use sy_library::foreign_to;
 use sy_names::Names;
 use sy_note::{Code, Spot};
+use sy_objects::foreign_to;
 use sy_rules::{Constant, Denotes, Named, Seen, Setting, Taken, ThreadScope};
 use sy_tree::Lexeme;
 use sy_typed::Thing;

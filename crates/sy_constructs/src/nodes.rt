@@ -6,7 +6,7 @@ ghost use Rattle.sy_rules.specs.Constants.{number_in};
 ghost use Rattle.sy_rules.specs.Walk.{error_or_runtime};
 
 use crate::names::is_outside;
-use sy_library::{error_named, member_named};
+use sy_members::{error_named, member_named};
 use sy_note::Spot;
 use sy_rules::{Constant, Named};
 use sy_typed::{ErrorName, Member, Thing, Typed, TypedNode, Variable};

@@ -1,9 +1,10 @@
 //! What the place of a part takes beyond what any place takes.
 
 ghost use Rattle.std.specs.Prelude.{◌≡◌};
+ghost use Rattle.sy_rules.specs.ExprRules.{is_equality};
 ghost use Rattle.sy_rules.specs.Walk.{taken_by_object, taken_by_library, taken_by_member, taken_before_member, taken_inside, taken_beside, taken_as};
 
-use crate::operators::is_equality;
+use sy_num::BinOp;
 use sy_rules::Taken;
 use sy_tree::{LibraryFunction, ObjectType, Operator};
 use sy_typed::Member;
@@ -64,6 +65,17 @@ pub fn taken_inside(taken: Taken) -> Taken
         Taken::Dependency => taken,
         Taken::Source => taken,
         _ => Taken::Nothing,
+    }
+}
+
+/// `==` or `!=`.
+pub fn is_equality(op: Operator) -> bool
+    ensures { result ≡ is_equality op }
+{
+    match op {
+        Operator::Strict(BinOp::Eq) => true,
+        Operator::Strict(BinOp::Ne) => true,
+        _ => false,
     }
 }
 

@@ -1,20 +1,19 @@
-// Constructs over what is seen of their parts, by hand.
+// Constructs without parts, and what all have, by hand.
 
 use super::*;
 use std::alloc::{AllocError, Global};
 use std::test::Fail;
-use sy_access::Mode;
 use sy_findings::Findings;
 use sy_lex::Text;
 use sy_names::{Declared, Names};
-use sy_note::{Code, Diagnostic, Spot};
-use sy_num::{BinOp, Kind, UnOp};
+use sy_note::{Code, Spot};
+use sy_num::{BinOp, Kind};
 use sy_rules::{Constant, Denotes, Named, Seen, Taken};
 use sy_tree::{
     AccessTag, Brackets, FunctionObject, IntegerType, Lexeme, LibraryFunction, ObjectType,
-    Operator, Qualified, Step,
+    Operator, Qualified,
 };
-use sy_typed::{Dimensions, ErrorName, Member, Thing};
+use sy_typed::{ErrorName, Member, Thing};
 
 const HERE: Spot = Spot { line: 2, column: 7 };
 
@@ -30,75 +29,12 @@ const BYTE: IntegerType = IntegerType {
     kind: Kind::UChar,
 };
 
-fn seen(what: Thing, denotes: Denotes, constant: Constant) -> Seen {
-    Seen {
-        what: Some(what),
-        first: Spot::START,
-        denotes,
-        constant,
-        variable: None,
-        is_bare: false,
-    }
-}
-
 fn number(z: i128) -> Seen {
-    seen(
-        Thing::Integer(Kind::Int),
-        Denotes::Value,
+    value(
+        Some(Thing::Integer(Kind::Int)),
+        Spot::START,
         Constant::Number(z),
     )
-}
-
-fn computed(ask: u8, findings: &mut Findings) -> Seen {
-    let (a, b) = (number(300), number(7));
-    match ask {
-        0 => cast(findings, HERE, BYTE, a),
-        1 => static_cast(findings, HERE, BYTE, a, END),
-        2 => functional_cast(findings, BYTE, a, END),
-        3 => unary(findings, HERE, UnOp::Minus, b),
-        4 => binary(findings, a, HERE, Operator::Strict(BinOp::Rem), b),
-        5 => binary(findings, a, HERE, Operator::LogicalAnd, b),
-        _ => conditional(findings, number(0), HERE, a, b),
-    }
-}
-
-const COMPUTED: [(u8, Kind, i128); 7] = [
-    (0, Kind::UChar, 44),
-    (1, Kind::UChar, 44),
-    (2, Kind::UChar, 44),
-    (3, Kind::Int, -7),
-    (4, Kind::Int, 6),
-    (5, Kind::Bool, 1),
-    (6, Kind::Int, 7),
-];
-
-#[test]
-fn constants_have_values(rt: HostRuntime) -> Result<(), Fail> {
-    let mut findings = Findings::new();
-    for (ask, kind, z) in COMPUTED {
-        let whole = computed(ask, &mut findings);
-        assert_eq!(rt; whole.what, Some(Thing::Integer(kind)));
-        assert_eq!(rt; whole.constant, Constant::Number(z));
-    }
-    assert_eq!(rt; findings.first(), None);
-    Ok(())
-}
-
-#[test]
-fn only_variables_are_counted(rt: HostRuntime) -> Result<(), Fail> {
-    let mut findings = Findings::new();
-    let x = seen(
-        Thing::Integer(Kind::Short),
-        Denotes::Place(false),
-        Constant::Varying,
-    );
-    let whole = prefix(&mut findings, HERE, Step::Increment, x);
-    assert_eq!(rt; whole.what, Some(Thing::Integer(Kind::Short)));
-    assert_eq!(rt; findings.first(), None);
-    let broken = postfix(&mut findings, number(1), HERE, Step::Decrement);
-    assert_eq!(rt; broken.what, None);
-    assert_eq!(rt; findings.first().map(|d| d.code), Some(Code::NotAssignable));
-    Ok(())
 }
 
 fn without_parts(ask: u8) -> Seen {
@@ -137,52 +73,6 @@ fn leaves_have_types(rt: HostRuntime) -> Result<(), Fail> {
 }
 
 #[test]
-fn indexes_have_their_objects_dimensions(rt: HostRuntime) -> Result<(), Fail> {
-    let names = Names::new(rt.alloc(), 0);
-    let mut findings = Findings::new();
-    let object = Thing::HostAccessor(Kind::Int, Dimensions::Two, Mode::Read);
-    let a = seen(object, Denotes::Place(false), Constant::Varying);
-    let id = seen(
-        Thing::Id(Dimensions::Two),
-        Denotes::Place(false),
-        Constant::Varying,
-    );
-    let element = subscript(&names, &mut findings, a, HERE, id, END);
-    assert_eq!(rt; element.denotes, Denotes::Element(Mode::Read));
-    assert_eq!(rt; findings.first(), None);
-    let item = seen(
-        Thing::Item(Dimensions::Three),
-        Denotes::Value,
-        Constant::Varying,
-    );
-    let broken = subscript(&names, &mut findings, a, HERE, item, END);
-    assert_eq!(rt; broken.what, None);
-    assert_eq!(rt;
-        findings.first(),
-        Some(Diagnostic {
-            spot: Spot::START,
-            code: Code::BadDimension
-        })
-    );
-    Ok(())
-}
-
-#[test]
-fn barriers_stand_in_kernels(rt: HostRuntime) -> Result<(), Fail> {
-    let names = Names::new(rt.alloc(), 0);
-    let mut findings = Findings::new();
-    let group = seen(
-        Thing::Group(Dimensions::One),
-        Denotes::Value,
-        Constant::Varying,
-    );
-    let broken = group_barrier(&names, &mut findings, QUALIFIED, group, END);
-    assert_eq!(rt; broken.what, None);
-    assert_eq!(rt; findings.first().map(|d| d.code), Some(Code::NotInHost));
-    Ok(())
-}
-
-#[test]
 fn names_are_declared(rt: HostRuntime) -> Result<(), Fail> {
     let mut names = Names::new(rt.alloc(), 0);
     let text = Text::copied(rt.alloc(), b"x")?;
@@ -199,12 +89,6 @@ fn names_are_declared(rt: HostRuntime) -> Result<(), Fail> {
     let whole = name(&names, &mut findings, &x, found);
     assert_eq!(rt; whole.denotes, Denotes::Place(false));
     assert_eq!(rt; findings.first(), None);
-    let broken = call(&names, &mut findings, &x, found, &[], END);
-    assert_eq!(rt; broken.what, None);
-    assert_eq!(rt;
-        findings.first().map(|d| d.code),
-        Some(Code::WrongArguments)
-    );
     Ok(())
 }
 
@@ -241,33 +125,6 @@ fn literals_have_kinds(rt: HostRuntime) -> Result<(), Fail> {
     let wide = with_literal(b"99999999999999999999", &mut findings, rt.alloc())?;
     assert_eq!(rt; wide.what, None);
     assert_eq!(rt; findings.first().map(|d| d.code), Some(Code::BadLiteral));
-    Ok(())
-}
-
-#[test]
-fn library_takes_arguments(rt: HostRuntime) -> Result<(), Fail> {
-    let names = Names::new(rt.alloc(), 0);
-    let mut findings = Findings::new();
-    let queue = ObjectType::Queue(QUALIFIED);
-    let made = construct(
-        &names,
-        &mut findings,
-        &queue,
-        Brackets::Braces,
-        HERE,
-        &[],
-        END,
-    );
-    assert_eq!(rt; made.what, Some(Thing::Queue));
-    let text = Text::copied(rt.alloc(), b"wait")?;
-    let x = Lexeme { spot: HERE, text };
-    let waited = member_call(&names, &mut findings, made, &x, &None, &[], END);
-    assert_eq!(rt; waited.what, Some(Thing::Void));
-    assert_eq!(rt; findings.first(), None);
-    let function = LibraryFunction::GroupBroadcast;
-    let broken = library_call(&names, &mut findings, QUALIFIED, function, &[], END);
-    assert_eq!(rt; broken.what, None);
-    assert_eq!(rt; findings.first().map(|d| d.code), Some(Code::NotInHost));
     Ok(())
 }
 

@@ -15,8 +15,9 @@ ghost use Rattle.sy_tree.specs.declared.parts.Qualified.{Qualified};
 ghost use Rattle.sy_tree.specs.declared.tree.Argument.TheOpen.{Expr-F};
 
 use crate::names::type_of_name;
-use sy_library::{foreign_to, is_accessor, is_made_in, is_reduction_call};
+use sy_fits::is_reduction_call;
 use sy_names::Names;
+use sy_objects::{foreign_to, is_accessor, is_made_in};
 use sy_rules::{Named, Seen, Within};
 use sy_tree::{LibraryFunction, ObjectType};
 

@@ -14,13 +14,14 @@ use crate::steps::pair;
 use crate::walk::{Arguments, Part, Parts, Walk};
 use sqlite_items::Boxed;
 use std::alloc::AllocError;
+use sy_calls::{call, construct, library_call};
 use sy_constructs::{
-    call, called, called_number, construct, foreign_barrier, foreign_function, foreign_index,
-    foreign_object, group_barrier, library_call, subscript, typed,
+    called, called_number, foreign_barrier, foreign_function, foreign_index, foreign_object, typed,
 };
 use sy_findings::Findings;
-use sy_library::type_word;
 use sy_note::Spot;
+use sy_objects::type_word;
+use sy_operands::{group_barrier, subscript};
 use sy_tree::{Brackets, Lexeme, LibraryFunction, ObjectType, Qualified};
 use sy_typed::TypedNode;
 

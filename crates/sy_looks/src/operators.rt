@@ -11,12 +11,11 @@ use crate::steps::{pair, triple};
 use crate::walk::{Part, Walk};
 use sqlite_items::Boxed;
 use std::alloc::AllocError;
-use sy_constructs::{
-    binary, cast, conditional, functional_cast, parenthesized, postfix, prefix, static_cast, unary,
-};
+use sy_constructs::parenthesized;
 use sy_findings::Findings;
 use sy_note::Spot;
 use sy_num::UnOp;
+use sy_operands::{binary, cast, conditional, functional_cast, postfix, prefix, static_cast, unary};
 use sy_tree::{IntegerType, Operator, Step};
 use sy_typed::TypedNode;
 

@@ -10,7 +10,7 @@ ghost use Rattle.sy_rules.specs.StmtRules.{redeclared, plain_faults, auto_takes,
 
 use sy_constants::{converted_to_type, or_unknown};
 use sy_findings::{Findings, kind_of, no_integer, unread};
-use sy_library::{same_dimensions, same_kind};
+use sy_fits::{same_dimensions, same_kind};
 use sy_names::Names;
 use sy_note::{Code, Spot};
 use sy_rules::{Constant, Seen, Shared};

@@ -13,13 +13,13 @@ ghost use Rattle.sy_rules.specs.StmtRules.{unsubmitted, object_faults, vector_fa
 use crate::declarations::redeclaration;
 use crate::literals::{no_dimension_in_type, wide_in_type};
 use sy_findings::{Findings, unread};
-use sy_library::{
-    fit_device_vector, fit_vector, initialized_row, is_submitted, made_in_host, same_kind,
-    type_start,
-};
+use sy_fits::same_kind;
 use sy_names::Names;
 use sy_note::{Code, Spot};
 use sy_num::Kind;
+use sy_objects::{
+    fit_device_vector, fit_vector, initialized_row, is_submitted, made_in_host, type_start,
+};
 use sy_rules::{Fit, Seen, SeenArgument, SeenInitializer, Within};
 use sy_tree::{Lexeme, ObjectType, TypeSpecifier};
 use sy_typed::Thing;

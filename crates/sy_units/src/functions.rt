@@ -12,7 +12,7 @@ ghost use Rattle.sy_rules.specs.Units.{returned_kind, is_named_main, signature_o
 use crate::parameters::passed_to;
 use std::alloc::{AllocError, Global};
 use sy_findings::Findings;
-use sy_library::same_kind;
+use sy_fits::same_kind;
 use sy_names::Names;
 use sy_note::{Code, Spot};
 use sy_num::Kind;

@@ -1,6 +1,0 @@
-use Rattle.std.proofs.Common.{◌≡◌, drop}
-use Rattle.sy_rules.specs.Fit.{each_integer}
-use Rattle.sy_library.proofs.fits.each_integer.Given as goal
-
-abbrev pub invariant-loop-x : goal.invariant-loop-x
-invariant-loop-x l = each_integer (drop l.x-index l.xs) ≡ each_integer l.xs

@@ -1,5 +1,0 @@
-use Rattle.std.proofs.Common.{refl}
-use Rattle.sy_library.proofs.words.handler_word.Goals as goal
-
-pub returns : goal.returns
-returns c = rw (c.member_or.ensures, c.member_or-second.ensures, c.member_or-third.ensures, c.member_or-fourth.ensures, c.member_or-fifth.ensures, c.member_or-sixth.ensures, c.member_or-seventh.ensures, c.member_or-eighth.ensures, c.index_word-others.ensures) refl
