@@ -14,8 +14,8 @@ mod uses;
 mod whole;
 
 pub use leaves::{
-    access_tag, boolean, error_code, function_object, in_order, initialize_to_identity, is_compared,
-    kind_written, parenthesized,
+    access_tag, boolean, error_code, function_object, in_order, initialize_to_identity,
+    is_compared, kind_written, parenthesized,
 };
 pub use literals::{character, integer, no_dimension, wide_literal};
 pub use names::{is_misused_in, is_outside, is_unknown, may_share, name, type_of_name};
@@ -28,7 +28,7 @@ pub use places::{
 };
 pub use settings::{is_group, is_host, is_kernel};
 pub use uses::{
-    Foreign, called, foreign_barrier, foreign_function, foreign_index, foreign_name, foreign_object,
-    used,
+    Foreign, called, foreign_barrier, foreign_function, foreign_index, foreign_name,
+    foreign_object, used,
 };
 pub use whole::{both_known, is_known, settle, value};

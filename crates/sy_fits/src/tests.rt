@@ -4,7 +4,9 @@ use super::*;
 use std::test::Fail;
 use sy_note::Spot;
 use sy_num::Kind;
-use sy_rules::{Constant, Denotes, Fit, Parameters, Passed, Row, Seen, SeenArgument, Signature, Wanted};
+use sy_rules::{
+    Constant, Denotes, Fit, Parameters, Passed, Row, Seen, SeenArgument, Signature, Wanted,
+};
 use sy_tree::{FunctionObject, LibraryFunction};
 use sy_typed::{Dimensions, Thing};
 
