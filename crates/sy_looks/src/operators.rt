@@ -15,7 +15,9 @@ use sy_constructs::parenthesized;
 use sy_findings::Findings;
 use sy_note::Spot;
 use sy_num::UnOp;
-use sy_operands::{binary, cast, conditional, functional_cast, postfix, prefix, static_cast, unary};
+use sy_operands::{
+    binary, cast, conditional, functional_cast, postfix, prefix, static_cast, unary,
+};
 use sy_tree::{IntegerType, Operator, Step};
 use sy_typed::TypedNode;
 
