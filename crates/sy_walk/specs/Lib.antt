@@ -1,2 +1,3 @@
 pub mod Below
 pub mod Trees
+pub mod Values
