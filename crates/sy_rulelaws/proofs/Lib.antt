@@ -1,0 +1,4 @@
+pub mod CodeLemmas
+pub mod LookLemmas
+pub mod TreeLemmas
+pub mod UnitLemmas
