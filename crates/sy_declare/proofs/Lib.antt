@@ -1,0 +1,2 @@
+mod DeclareLemmas
+mod FormLemmas
