@@ -1,0 +1,4 @@
+mod FormLemmas
+mod RangedLemmas
+mod StartLemmas
+mod StepLemmas

@@ -1,0 +1,8 @@
+use Rattle.std.proofs.Common.{true}
+use Rattle.sy_bodies.proofs.StepLemmas.{set_step}
+use Rattle.sy_bodies.proofs.inner.Inner.looped.Goals as goal
+use Rattle.sy_rules.specs.Walk.{stmt}
+use Rattle.sy_rules.specs.declared.statements.Standing.TheVariants as standing
+
+pub returns : goal.returns
+returns g c = set_step (λ s. record s { in_loop = true }) (stmt c.args.s.now standing.AsBody) c.args.w.now _ _ _ _ _ _ c.setting-setting.ensures c.in_a_loop.ensures c.set.ensures c.in_ok-tree.ensures c.set-2.ensures

@@ -1,0 +1,17 @@
+use Rattle.std.proofs.Common.{None, ap, ◌∙◌}
+use Rattle.sy_bodies.proofs.StepLemmas.{judged_statement}
+use Rattle.sy_bodies.proofs.judged.judge_if.Goals as goal
+use Rattle.sy_findings.specs.Told.{told}
+use Rattle.sy_rules.specs.Layers.{SeenStmt}
+use Rattle.sy_rules.specs.StmtRules.{stmt_faults}
+use Rattle.sy_tree.specs.declared.tree.Argument.TheOpen.{Stmt-F}
+use Rattle.sy_typed.specs.declared.tree.TypedStmt.TheVariants as typed
+
+pub returns : goal.returns
+returns c =
+    let w = c.args.w.now in
+    let s = c.args.s in
+    let x : SeenStmt = Stmt-F.If s c.args.c.0 tt None in
+    judged_statement x (typed.If s c.args.c.1 c.args.x c.args.y) w _ _
+    (c.condition.ensures.at_if w.names.setting s tt None ∙ ap (λ f. told f (stmt_faults w.names.setting x)) c.new-own.ensures)
+    c.add.ensures
