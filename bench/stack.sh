@@ -1,5 +1,6 @@
 #!/bin/bash
-# Finds the least stack, in steps of 16 KiB, with which the built program reads trees of height 64 of several kinds.
+# Finds the least stack, in steps of 16 KiB, with which the built program reads and checks trees of height 64 of several
+# kinds.
 # Usage: bench/stack.sh. Needs python3.
 . "$(dirname "$0")/common.sh"
 for kind in parentheses signs calls indexes blocks branches loops lambdas; do
@@ -15,20 +16,22 @@ opens, closes, inner, count = {
     "blocks": ("{", "}", ";", 62),
     "branches": ("if (x) ", "", ";", 62),
     "loops": ("for (;;) ", "", ";", 62),
-    "lambdas": ("x.f([&] { ", "; });", ";", 15),
+    "lambdas": ("std::thread t([] { ", " });", ";", 20),
 }[kind := sys.argv[1]]
 if kind in ("blocks", "branches", "loops", "lambdas"):
     head, tail = "int main() { ", " }"
 if kind == "signs":
     opens = "- "
-if kind == "lambdas":
-    closes = " });"
 print(head + opens * count + inner + closes * count + tail, end="")
 PY
-    "$program" serial <"$work/source" >/dev/null 2>"$work/note" || true
-    grep -q 'not built' "$work/note" || { echo "$kind: $(cat "$work/note")"; exit 1; }
+    status=0
+    "$program" check <"$work/source" >/dev/null 2>"$work/note" || status=$?
+    if grep -q 'not in the grammar' "$work/note"; then
+        echo "$kind: $(cat "$work/note")"
+        exit 1
+    fi
     for ((room = 16; room <= 8192; room += 16)); do
-        if (ulimit -s "$room"; "$program" serial <"$work/source" >/dev/null 2>"$work/note"; [ $? -eq 124 ]) 2>/dev/null; then
+        if (ulimit -s "$room"; "$program" check <"$work/source" >/dev/null 2>"$work/note"; [ $? -eq "$status" ]) 2>/dev/null; then
             break
         fi
     done

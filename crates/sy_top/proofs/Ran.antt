@@ -1,25 +1,27 @@
 -- What a run that was written leaves.
-use Rattle.std.proofs.Common.{◌≡◌, ℕ, ◌≤◌, Bool, true, false, List, [], ◌++◌, length, Option, IfSome, ◌⊎◌, inl, inr, refl, sym, ap, ◌∙◌, subst}
+use Rattle.std.proofs.Common.{◌≡◌, ℕ, true, List, [], ◌++◌, ◌⊎◌, inl, inr, refl, sym, ap, ◌∙◌, subst}
 use Rattle.std.specs.Prelude.{if◌then◌else◌, All}
-use Rattle.std.specs.Io.KnownBytes.{Appends}
+use Rattle.std.specs.Io.KnownBytes.{Appends, Keeps}
 use Rattle.sy_io.specs.Known.{AppendsFront}
 use Rattle.sy_work.specs.declared.endings.Ending.{Ending}
 use Rattle.sy_work.specs.declared.endings.Ending.TheVariants as ending
 use Rattle.sy_note.specs.declared.Diagnostic.{Diagnostic}
-use Rattle.sy_work.specs.Programs.{Program}
 use Rattle.sy_onecopy.specs.State.{start}
 use Rattle.sy_onecopy.specs.Sequence.{IsRun, IsSerial}
 use Rattle.sy_top.specs.declared.call.Ready.{Ready}
 use Rattle.sy_top.specs.declared.jobs.Job.{Job}
 use Rattle.sy_top.specs.declared.jobs.Job.TheVariants.{Check, Serial, Run as JobRun, SelfTest, Replay}
 use Rattle.sy_top.specs.declared.jobs.Settings.{Settings}
+use Rattle.sy_tree.specs.declared.tree.Unit.{Unit as SourceUnit}
 use Rattle.sy_top.specs.declared.notes.Ended.{Ended}
 use Rattle.sy_top.specs.declared.notes.Ended.TheVariants as ended
 use Rattle.sy_top.specs.declared.runs.Run.{Run}
+use Rattle.sy_top.specs.declared.runs.Note.TheVariants as note
 use Rattle.sy_top.specs.Notes.{line_of, tail_of, note_of, has_run, ended_by}
 use Rattle.sy_sums.specs.Commands.{commands}
-use Rattle.sy_top.specs.Headline.{Outside, Stream, IsFaultless, HasFault, IsRead, Tells, Untouched, Runs, Rejects, IsRunOf, Ran, Cause, HasCause, AnswersJob, is_plain}
+use Rattle.sy_top.specs.Headline.{Outside, Stream, IsFaultless, HasFault, IsRead, Tells, Untouched, Takes, Rejects, IsRunOf, Ran, Cause, HasCause, AnswersJob, is_plain}
 use Rattle.sy_top.specs.Judged.{IsReady, Writes}
+use Rattle.sy_top.specs.Sources.{IsAcceptedSource}
 
 -- it was written whole, or writing met a fault
 whole_or_fault : (s : Stream) (end : Ending) (output : List ℕ) (e : Ended) → Writes s end output e →
@@ -92,9 +94,30 @@ module _ (o : Outside) (set : Settings) (run : Run) (ready : Ready) (bytes : Lis
 
 -- a source that was read and refused
 pub refused_cause : (o : Outside) (set : Settings) (run : Run) (d : Diagnostic) (bytes : List ℕ) → run.ended ≡ ended.Refused d → IsRead o.source bytes
-    → Rejects set.job bytes d → ((p : Program) → Runs set set.job bytes p → ⊥) → Untouched o run → HasCause o set run
+    → Rejects set.job bytes d → (Takes set set.job bytes → ⊥) → Untouched o run → HasCause o set run
 refused_cause o set run d bytes e read why none untouched =
     subst (Cause o set run) (sym e) (record { bytes = bytes; read = read; why = why; refused = none; untouched = untouched })
+
+-- a source that was read and is accepted
+pub checked_cause : (o : Outside) (set : Settings) (run : Run) (bytes : List ℕ) → run.ended ≡ ended.Checked → IsRead o.source bytes
+    → (set.job ≡ Check) × ((unit : SourceUnit) × IsAcceptedSource bytes unit) → Untouched o run → HasCause o set run
+checked_cause o set run bytes e read is untouched =
+    subst (Cause o set run) (sym e) (record { job = is.0; bytes = bytes; read = read; unit = is.1.0; accepted = is.1.1; untouched = untouched })
+
+-- nothing is told of an accepted source
+checked_line : line_of ended.Checked ≡ []
+unfolding line_of
+checked_line = refl
+
+pub checked_untouched : (o : Outside) (run : Run) → run.ended ≡ ended.Checked → run.order.items ≡ [] → run.copies ≡ 0 → run.note ≡ note.Nothing
+    → Keeps o.out.before o.out.now → IsFaultless o.out → Keeps o.err.before o.err.now → IsFaultless o.err → Untouched o run
+checked_untouched o run e order copies n keeps faultless err_keeps err_faultless = record {
+  no_order = order;
+  no_copies = copies;
+  no_bytes = keeps;
+  no_fault = faultless;
+  told = subst (Tells o.err (line_of run.ended)) (sym n) (ap line_of e ∙ checked_line, err_keeps, err_faultless);
+}
 
 -- a job that waits for nobody is answered as its source is
 pub plain_answers : (job : Job) (o : Outside) (set : Settings) (run : Run) → is_plain job ≡ true → HasCause o set run → AnswersJob job o set run

@@ -1,6 +1,5 @@
 -- The longest stretches of an order.
-use Rattle.std.proofs.Common.{◌≡◌, ℕ, zero, suc, ◌+◌, ◌<◌, ◌≤◌, get_or, Bool, true, false, eqb, cond, List, [], ◌∷◌, ◌++◌, drop, replicate, length, refl, sym, ap, ◌∙◌, add-one, arith}
-use Rattle.std.specs.Prelude.{⊤}
+use Rattle.std.proofs.Common.{◌≡◌, ℕ, suc, ◌+◌, ◌<◌, ◌≤◌, get_or, Bool, true, false, eqb, cond, List, [], ◌∷◌, ◌++◌, drop, replicate, length, refl, sym, ap, ◌∙◌, add-one, arith}
 use Rattle.std.specs.List.{prefix_len}
 use Rattle.std.proofs.lemmas.Bool.{eqb-true, eqb-false, eq-eqb, cond-true, cond-false}
 use Rattle.sy_top.specs.Trace.{Stretch, before_stretches, stretches_of, stretch_line, stretch_lines, spelled, HaveSteps, AreLongest}

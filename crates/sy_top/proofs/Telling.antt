@@ -1,11 +1,10 @@
 -- Two texts told one after the other.
-use Rattle.std.proofs.Common.{◌≡◌, ℕ, ◌+◌, ◌<◌, Bool, true, false, List, [], ◌∷◌, ◌++◌, length, take, Option, Some, None, refl, sym, ap, ◌∙◌, subst, arith, append-nil, length-append}
+use Rattle.std.proofs.Common.{◌≡◌, ℕ, ◌+◌, ◌<◌, true, false, List, [], ◌++◌, length, take, Option, Some, None, sym, ap, ◌∙◌, subst, arith, append-nil, length-append}
 use Rattle.std.proofs.Math.Seq.{take-append-add}
 use Rattle.std.proofs.lemmas.List.{take-append-le}
 use Rattle.std.proofs.KnownBytes.{Appends-trans, Keeps-trans}
 use Rattle.std.specs.Io.KnownBytes.{Appends, Keeps}
 use Rattle.sy_io.specs.Faults.{Rose}
-use Rattle.sy_io.specs.Known.{AppendsFront}
 use Rattle.sy_top.specs.declared.runs.Note.{Note}
 use Rattle.sy_top.specs.declared.runs.Note.TheVariants.{Nothing, Written, Failed}
 use Rattle.sy_top.specs.Headline.{stream, Tells}

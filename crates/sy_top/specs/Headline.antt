@@ -20,18 +20,24 @@ use Rattle.sy_top.specs.declared.runs.Run.{Run}
 use Rattle.sy_top.specs.declared.runs.Note.{Note}
 use Rattle.sy_top.specs.declared.runs.Note.TheVariants as note
 use Rattle.sy_sums.specs.Commands.{commands}
-use Rattle.sy_top.specs.Sources.{Accepted, Breaks}
+use Rattle.sy_tree.specs.declared.tree.Unit.{Unit as SourceUnit}
+use Rattle.sy_top.specs.Sources.{IsAcceptedSource, Accepted, Breaks}
 use Rattle.sy_top.specs.Notes.{line_of, note_of}
 
 -- ---- the source
 
--- the job runs an accepted source as that program. The other jobs are not built yet
+-- the job runs an accepted source as that program. Mode check runs none, and the other jobs are not built yet
 abbrev pub Runs : Settings → Job → List ℕ → Program → Type 0
 Runs set Serial bytes p = Accepted bytes set.turns p
 Runs set Check bytes p = ⊥
 Runs set JobRun bytes p = ⊥
 Runs set SelfTest bytes p = ⊥
 Runs set Replay bytes p = ⊥
+
+-- the job takes the source: mode check an accepted one, the others one that they run
+abbrev pub Takes : Settings → Job → List ℕ → Type 0
+Takes set Check bytes = (unit : SourceUnit) × IsAcceptedSource bytes unit
+Takes set job bytes = (p : Program) × Runs set job bytes p
 
 -- a source has 1 MiB at most
 abbrev pub source_limit : ℕ
@@ -135,17 +141,27 @@ pub record Broke (o : Outside) (set : Settings) (run : Run) : Type 0 where
 abbrev pub not_built : Diagnostic
 not_built = record { spot = record { line = 1; column = 1 }; code = NotBuilt }
 
--- why the job refuses a source
+-- why the job refuses a source; mode check never since it is not built
 abbrev pub Rejects : Job → List ℕ → Diagnostic → Type 0
+Rejects Check bytes d = Breaks bytes d.code d.spot × (d.code ≡ NotBuilt → ⊥)
 Rejects Serial bytes d = Breaks bytes d.code d.spot
 Rejects job bytes d = d ≡ not_built
 
--- the source was read to its end, and no program is accepted with it
+-- mode check: the source was read to its end, and is accepted
+pub record Checks (o : Outside) (set : Settings) (run : Run) : Type 0 where
+  pub job : set.job ≡ Check
+  pub bytes : List ℕ
+  pub read : IsRead o.source bytes
+  pub unit : SourceUnit
+  pub accepted : IsAcceptedSource bytes unit
+  pub untouched : Untouched o run
+
+-- the source was read to its end, and the job doesn't take it
 pub record Refuses (o : Outside) (set : Settings) (run : Run) (d : Diagnostic) : Type 0 where
   pub bytes : List ℕ
   pub read : IsRead o.source bytes
   pub why : Rejects set.job bytes d
-  pub refused : (p : Program) → Runs set set.job bytes p → ⊥
+  pub refused : Takes set set.job bytes → ⊥
   pub untouched : Untouched o run
 
 -- when each answer of a job that reads its source comes, and what it leaves
@@ -158,6 +174,7 @@ Cause o set run (ended.TurnsSpent t l) = Ran o set run (ending.TurnsSpent t l)
 Cause o set run ended.Stuck = Ran o set run ending.Stuck
 Cause o set run ended.OutputFull = Ran o set run ending.OutputFull
 Cause o set run ended.HistoryFull = Ran o set run ending.HistoryFull
+Cause o set run ended.Checked = Checks o set run
 Cause o set run (ended.Refused d) = Refuses o set run d
 Cause o set run ended.SourceTooLong = IsTooLong o.source × Untouched o run
 Cause o set run ended.ReadFault = HasFault o.source × Untouched o run
@@ -165,7 +182,6 @@ Cause o set run ended.WriteFault = Broke o set run
 Cause o set run ended.Memory = IsFaultless o.source × Untouched o run
 -- these answers never come of a job that is built
 Cause o set run ended.BadWords = ⊥
-Cause o set run ended.Checked = ⊥
 Cause o set run (ended.BadTrace l) = ⊥
 Cause o set run (ended.Illegal k) = ⊥
 Cause o set run ended.Unfinished = ⊥

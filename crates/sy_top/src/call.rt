@@ -2,15 +2,15 @@
 
 ghost use Rattle.std.specs.Prelude.{◌≡◌, ◌≤◌, [], ◌++◌, length, IfOk};
 ghost use Rattle.sy_top.specs.Headline.{Tells, not_built, stream};
-ghost use Rattle.sy_top.specs.Judged.{Judges, JudgesTree, IsRefusal, IsRunOfTree, ended_by_stop, is_failed, joined};
+ghost use Rattle.sy_top.specs.Judged.{Judges, JudgesTree, IsRefusal, IsRefusalBy, IsRunOfTree, ended_by_stop, is_failed, joined};
 ghost use Rattle.sy_top.specs.Notes.{line_of};
-ghost use Rattle.sy_top.specs.declared.jobs.Job.TheVariants.{Serial};
+ghost use Rattle.sy_top.specs.declared.jobs.Job.TheVariants.{Check, Serial};
 ghost use Rattle.sy_top.specs.declared.notes.Ended.TheVariants as ended;
 
 use crate::jobs::{Job, Settings};
 use crate::notes::Ended;
 use crate::runs::{Note, Run};
-use crate::source::tree_of;
+use crate::source::accepted_tree;
 use crate::trace::tail;
 use std::alloc::{AllocError, Global};
 use sy_access::Bytes;
@@ -37,6 +37,8 @@ pub struct Ready {
 #[derive(Drop)]
 pub enum Judged {
     Ran(Ready),
+    /// In mode check, the source is accepted.
+    Checked,
     Refused(Diagnostic, Vec<u8>),
 }
 
@@ -52,6 +54,16 @@ fn refuse(alloc: Global, diagnostic: Diagnostic) -> Result<Judged, AllocError>
 {
     let note = Ended::Refused(diagnostic).line(alloc)?;
     Ok(Judged::Refused(diagnostic, note))
+}
+
+/// The same where a layer of the front end stopped.
+fn refuse_stop(alloc: Global, stop: FrontStop) -> Result<Judged, AllocError>
+    ensures { IfOk result (IsRefusalBy stop) }
+{
+    match stop {
+        FrontStop::Refused(diagnostic) => refuse(alloc, diagnostic),
+        FrontStop::Memory => Err(AllocError),
+    }
 }
 
 /// The run of a tree, which submits no command.
@@ -92,16 +104,28 @@ fn judge_tree(alloc: Global, set: &Settings, unit: &Unit) -> Result<Judged, Allo
     }
 }
 
-/// Reads the tree of a source, and runs it.
-fn judge_source(alloc: Global, set: &Settings, bytes: &[u8]) -> Result<Judged, AllocError>
+/// Looks whether a source is accepted.
+fn check_source(alloc: Global, set: &Settings, bytes: &[u8]) -> Result<Judged, AllocError>
+    requires bytes { length bytes.now ≤ 1048576 }
+    requires job { set.now.job ≡ Check }
+    ensures { IfOk result (Judges set.now bytes.now) }
+{
+    let _ = set;
+    match accepted_tree(alloc, bytes) {
+        Ok(_unit) => Ok(Judged::Checked),
+        Err(stop) => refuse_stop(alloc, stop),
+    }
+}
+
+/// Runs a source if it is accepted.
+fn run_source(alloc: Global, set: &Settings, bytes: &[u8]) -> Result<Judged, AllocError>
     requires bytes { length bytes.now ≤ 1048576 }
     requires job { set.now.job ≡ Serial }
     ensures { IfOk result (Judges set.now bytes.now) }
 {
-    match tree_of(alloc, bytes) {
+    match accepted_tree(alloc, bytes) {
         Ok(unit) => judge_tree(alloc, set, &unit),
-        Err(FrontStop::Refused(diagnostic)) => refuse(alloc, diagnostic),
-        Err(FrontStop::Memory) => Err(AllocError),
+        Err(stop) => refuse_stop(alloc, stop),
     }
 }
 
@@ -111,7 +135,8 @@ pub fn judge(alloc: Global, set: &Settings, bytes: &[u8]) -> Result<Judged, Allo
     ensures { IfOk result (Judges set.now bytes.now) }
 {
     match set.job {
-        Job::Serial => judge_source(alloc, set, bytes),
+        Job::Check => check_source(alloc, set, bytes),
+        Job::Serial => run_source(alloc, set, bytes),
         _ => refuse(alloc, NOT_BUILT),
     }
 }

@@ -3,7 +3,7 @@
 ghost use Rattle.std.specs.Prelude.{◌≡◌};
 ghost use Rattle.sy_top.specs.Headline as spec;
 
-/// What the program is to do. Of these only [`Job::Serial`] is built so far.
+/// What the program is to do. Of these [`Job::Check`] and [`Job::Serial`] are built so far.
 #[derive(Clone, Copy, PartialEq, Eq, Debug)]
 pub enum Job {
     Check,

@@ -1,7 +1,7 @@
 //! The top call: all that the program does, over a source and sinks of bytes.
 //!
-//! It reads the words and the source, finds its tokens and its tree, runs it, and writes its output and a note. The one
-//! form that is built so far is a main that prints sums.
+//! It reads the words and the source, finds its tokens and its tree, asks the rules of typing, runs it, and writes its
+//! output and a note. The one form that runs so far is a main that prints sums.
 #![tactic(auto)]
 
 ghost use Rattle.std.specs.Prelude.{◌≡◌, IsTrue, ◌++◌, map, string_bytes};
@@ -95,6 +95,7 @@ fn read_and_run<S: Source, O: Sink, E: Sink>(
     };
     match judge(alloc, set, bytes.as_slice()) {
         Ok(Judged::Ran(ready)) => write_run(alloc, ready, out, err),
+        Ok(Judged::Checked) => without_run(alloc, Ended::Checked, Note::Nothing),
         Ok(Judged::Refused(diagnostic, line)) => {
             let note = tell(err, line.as_slice());
             without_run(alloc, Ended::Refused(diagnostic), note)

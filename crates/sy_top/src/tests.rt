@@ -21,9 +21,10 @@ const CLEAN: Outside<'static> = Outside {
     out_fails: &[],
 };
 
-/// A call with the word `serial`; also what standard output and standard error took.
-fn serial<R: AllocGlobal + Threads + Wait + Sync>(
+/// A call in this mode; also what standard output and standard error took.
+fn call_in<R: AllocGlobal + Threads + Wait + Sync>(
     rt: &R,
+    mode: &str,
     source: &[u8],
     outside: &Outside,
 ) -> Result<(Run, Vec<u8>, Vec<u8>), Fail> {
@@ -36,7 +37,7 @@ fn serial<R: AllocGlobal + Threads + Wait + Sync>(
     );
     let mut out = MemSink::new(alloc, 100_000, piece, outside.out_fails.to_vec(alloc)?)?;
     let mut err = MemSink::new(alloc, 1000, 3, Vec::new(alloc))?;
-    let words = vec![in alloc; String::from_str(alloc, "serial")?]?;
+    let words = vec![in alloc; String::from_str(alloc, mode)?]?;
     let run = syclrun_top(
         rt,
         alloc,
@@ -158,7 +159,7 @@ fn runs(rt: HostRuntime) -> Result<(), Fail> {
         ),
     ];
     for (source, ended, steps, output) in cases {
-        let (run, out, err) = serial(&rt, source, &CLEAN)?;
+        let (run, out, err) = call_in(&rt, "serial", source, &CLEAN)?;
         assert_eq!(rt; run.ended, ended);
         assert_eq!(rt; run.order.len(), steps);
         assert!(rt; run.order.iter().all(|t| *t == 0));
@@ -177,10 +178,11 @@ fn refused(code: Code, column: u32) -> Ended {
     })
 }
 
-// Sources of one line, each with the rule that refuses it and the column.
+// Sources of one line, each with the rule that refuses it in mode serial, and the column. All but what isn't built is
+// refused so in mode check, and that is accepted there.
 #[test]
 fn refuses(rt: HostRuntime) -> Result<(), Fail> {
-    let cases: [(&[u8], Code, u32); 34] = [
+    let cases: [(&[u8], Code, u32); 37] = [
         // no-text
         (b"", Code::Grammar, 1),
         (b"int main(){ std::cout << \"ab", Code::Lexical, 26),
@@ -204,6 +206,16 @@ fn refuses(rt: HostRuntime) -> Result<(), Fail> {
         (b"intmain(){}", Code::Grammar, 1),
         (b"int main(){ / }", Code::Grammar, 13),
         (b"int main(){} #include <vector>", Code::Grammar, 14),
+        // bad-octal, unknown-name, and rules that are asked before what isn't built
+        (b"int main(){ return 08; }", Code::Lexical, 20),
+        (b"int main(){ return y; }", Code::UnknownName, 20),
+        (
+            b"using namespace sycl; int main(){ break; }",
+            Code::LoopWord,
+            35,
+        ),
+        (b"int main(int n){ std::cout << 1; }", Code::NoMain, 1),
+        (b"unsigned main(){ std::cout << 1; }", Code::NoMain, 1),
         // forms that aren't built
         (b"using namespace sycl; int main(){}", Code::NotBuilt, 1),
         (b"int main(){ return 1; }", Code::NotBuilt, 13),
@@ -223,8 +235,6 @@ fn refuses(rt: HostRuntime) -> Result<(), Fail> {
             Code::NotBuilt,
             31,
         ),
-        (b"int main(int n){ std::cout << 1; }", Code::NotBuilt, 1),
-        (b"unsigned main(){ std::cout << 1; }", Code::NotBuilt, 1),
         (
             b"int main(){ std::cout << 1; } int f(){}",
             Code::NotBuilt,
@@ -232,21 +242,27 @@ fn refuses(rt: HostRuntime) -> Result<(), Fail> {
         ),
     ];
     for (source, code, column) in cases {
-        let (run, out, err) = serial(&rt, source, &CLEAN)?;
+        let (run, out, err) = call_in(&rt, "serial", source, &CLEAN)?;
         assert_eq!(rt; run.ended, refused(code, column));
         assert_eq!(rt; run.status(), 124);
         assert!(rt; run.order.is_empty());
         assert!(rt; out.is_empty());
         assert!(rt; err.as_slice().starts_with(b"syclrun: 1:"));
         assert_eq!(rt; run.note, Note::Written);
+        let (checked, _, _) = call_in(&rt, "check", source, &CLEAN)?;
+        let accepted = code == Code::NotBuilt;
+        assert_eq!(rt;
+            checked.ended,
+            if accepted { Ended::Checked } else { run.ended }
+        );
     }
     Ok(())
 }
 
-// The notes of the three rules, as a person reads them.
+// The notes of refusals, as a person reads them.
 #[test]
 fn notes_of_refusals(rt: HostRuntime) -> Result<(), Fail> {
-    let cases: [(&[u8], &str); 3] = [
+    let cases: [(&[u8], &str); 5] = [
         (
             b"int main(){ std::cout << \"ab",
             "syclrun: 1:26: no token\n",
@@ -255,10 +271,19 @@ fn notes_of_refusals(rt: HostRuntime) -> Result<(), Fail> {
             b"int main(){\n  return 1 + * 2; }",
             "syclrun: 2:14: not in the grammar\n",
         ),
+        (
+            b"int main(){\n  return y; }",
+            "syclrun: 2:10: unknown name\n",
+        ),
+        // captured-int
+        (
+            b"#include <sycl/sycl.hpp>\n#include <iostream>\n#include <vector>\n#include <thread>\nusing namespace sycl;\nint main() { int x = 0; std::thread t([&x] { x = 1; }); t.join(); }\n",
+            "syclrun: 6:41: thread capture\n",
+        ),
         (b"int main(){\n  return 1; }", "syclrun: 2:3: not built\n"),
     ];
     for (source, note) in cases {
-        let (_, _, err) = serial(&rt, source, &CLEAN)?;
+        let (_, _, err) = call_in(&rt, "serial", source, &CLEAN)?;
         assert_eq!(rt; err.as_slice(), note.as_bytes());
     }
     Ok(())
@@ -278,11 +303,17 @@ fn heights(rt: HostRuntime) -> Result<(), Fail> {
             source.push(b')')?;
         }
         source.extend_from_slice(b"; }")?;
-        let (run, _, _) = serial(&rt, source.as_slice(), &CLEAN)?;
+        let (run, _, _) = call_in(&rt, "serial", source.as_slice(), &CLEAN)?;
         match run.ended {
             Ended::Refused(diagnostic) => assert_eq!(rt; diagnostic.code, code),
             _ => return Err(Fail::from("taken")),
         }
+        let (checked, _, _) = call_in(&rt, "check", source.as_slice(), &CLEAN)?;
+        let accepted = code == Code::NotBuilt;
+        assert_eq!(rt;
+            checked.ended,
+            if accepted { Ended::Checked } else { run.ended }
+        );
     }
     Ok(())
 }
@@ -313,12 +344,12 @@ int main() {
 }
 ";
 
-// every-prefix: what ends before the last `}` has no tokens or no tree
+// every-prefix: what ends before the last `}` has no tokens or no tree, and the whole is accepted
 #[test]
 fn every_prefix(rt: HostRuntime) -> Result<(), Fail> {
     let whole = REVERSE_IN_GROUPS.len();
-    for len in 0..whole - 2 {
-        let (run, out, _) = serial(&rt, &REVERSE_IN_GROUPS[..len], &CLEAN)?;
+    for len in 0..whole - 1 {
+        let (run, out, _) = call_in(&rt, "check", &REVERSE_IN_GROUPS[..len], &CLEAN)?;
         match run.ended {
             Ended::Refused(diagnostic) => {
                 assert!(rt; diagnostic.code == Code::Lexical || diagnostic.code == Code::Grammar)
@@ -327,18 +358,12 @@ fn every_prefix(rt: HostRuntime) -> Result<(), Fail> {
         }
         assert!(rt; out.is_empty());
     }
-    let (run, _, _) = serial(&rt, REVERSE_IN_GROUPS, &CLEAN)?;
-    assert_eq!(rt;
-        run.ended,
-        Ended::Refused(Diagnostic {
-            spot: Spot { line: 4, column: 1 },
-            code: Code::NotBuilt
-        })
-    );
+    let (run, _, _) = call_in(&rt, "check", REVERSE_IN_GROUPS, &CLEAN)?;
+    assert_eq!(rt; run.ended, Ended::Checked);
     Ok(())
 }
 
-// generated-run: the sources of the self test have a tree, whose first form that isn't built is in the third line
+// generated-run: the sources of the self test are accepted, and their first form that isn't built is in the third line
 #[test]
 fn generated_run(rt: HostRuntime) -> Result<(), Fail> {
     let third_line = Ended::Refused(Diagnostic {
@@ -347,8 +372,10 @@ fn generated_run(rt: HostRuntime) -> Result<(), Fail> {
     });
     for groups in [2, 200] {
         let source = source_of(rt.alloc(), 7, groups)?;
-        let (run, _, _) = serial(&rt, source.as_slice(), &CLEAN)?;
-        assert_eq!(rt; run.ended, third_line);
+        for (mode, ended) in [("check", Ended::Checked), ("serial", third_line)] {
+            let (run, _, _) = call_in(&rt, mode, source.as_slice(), &CLEAN)?;
+            assert_eq!(rt; run.ended, ended);
+        }
     }
     Ok(())
 }
@@ -363,7 +390,7 @@ fn faults_and_limits(rt: HostRuntime) -> Result<(), Fail> {
         out_fails: &[2],
         ..CLEAN
     };
-    let (run, out, err) = serial(&rt, sums, &broken)?;
+    let (run, out, err) = call_in(&rt, "serial", sums, &broken)?;
     assert_eq!(rt; run.ended, Ended::WriteFault);
     assert_eq!(rt; run.order.len(), 3);
     assert_eq!(rt; out.as_slice(), b"42".as_slice());
@@ -373,7 +400,7 @@ fn faults_and_limits(rt: HostRuntime) -> Result<(), Fail> {
         source_fails: &[3],
         ..CLEAN
     };
-    let (run, out, err) = serial(&rt, b"int main(){}", &unread)?;
+    let (run, out, err) = call_in(&rt, "serial", b"int main(){}", &unread)?;
     assert_eq!(rt; run.ended, Ended::ReadFault);
     assert!(rt; run.order.is_empty() && out.is_empty());
     assert_eq!(rt; err.as_slice(), b"syclrun: read fault\n".as_slice());
@@ -384,11 +411,11 @@ fn faults_and_limits(rt: HostRuntime) -> Result<(), Fail> {
         long.push(b' ')?;
     }
     assert_eq!(rt;
-        serial(&rt, long.as_slice(), &CLEAN)?.0.ended,
+        call_in(&rt, "serial", long.as_slice(), &CLEAN)?.0.ended,
         Ended::Returned(0)
     );
     long.push(b' ')?;
-    let (run, _, err) = serial(&rt, long.as_slice(), &CLEAN)?;
+    let (run, _, err) = call_in(&rt, "serial", long.as_slice(), &CLEAN)?;
     assert_eq!(rt; run.ended, Ended::SourceTooLong);
     assert_eq!(rt;
         err.as_slice(),
@@ -463,7 +490,7 @@ fn calls(rt: HostRuntime) -> Result<(), Fail> {
             "1",
             "syclrun: turns spent: thread 0, line 1\n",
         ),
-        (&["check"], NOT_BUILT, "", "syclrun: 1:1: not built\n"),
+        (&["check"], Ended::Checked, "", ""),
         (
             &["run", "--workers", "2", "--stats"],
             NOT_BUILT,

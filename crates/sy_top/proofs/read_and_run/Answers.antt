@@ -1,6 +1,6 @@
-use Rattle.std.proofs.Common.{◌≡◌, ap, ◌∙◌, subst, rules}
+use Rattle.std.proofs.Common.{subst, rules}
 use Rattle.sy_top.specs.Judged.{IsReady, Judges}
-use Rattle.sy_top.proofs.Ran.{has_cause, refused_cause}
+use Rattle.sy_top.proofs.Ran.{has_cause, refused_cause, checked_cause, checked_untouched}
 use Rattle.sy_top.proofs.read_and_run.Goals as goal
 
 pub returns-in-Ok-Ran : goal.returns-in-Ok-Ran
@@ -14,3 +14,10 @@ returns-in-Ok-Refused g c =
     let is = subst (λ b. Judges c.args.set.now b c.in-Ok-Refused.field-0) c.as_slice.ensures.value c.in-Ok-Refused.ensures in
     let why = subst (Judges c.args.set.now c.in-Ok.bytes.items) c.in-Ok-Refused.field-0-is is in
     record { cause = refused_cause _ c.args.set.now c.without_run-in-Ok-Refused.result c.in-Ok-Refused.diagnostic c.in-Ok.bytes.items c.without_run-in-Ok-Refused.ensures.ended (search rules) why.0 why.1 (search rules) }
+
+pub returns-in-Ok-Checked : goal.returns-in-Ok-Checked
+returns-in-Ok-Checked g c =
+    let is = subst (λ b. Judges c.args.set.now b c.in-Ok-Checked.field-0) c.as_slice.ensures.value c.in-Ok-Checked.ensures in
+    let accepted = subst (Judges c.args.set.now c.in-Ok.bytes.items) c.in-Ok-Checked.field-0-is is in
+    let w = c.without_run-in-Ok-Checked in
+    record { cause = checked_cause _ c.args.set.now w.result c.in-Ok.bytes.items w.ensures.ended (search rules) accepted (checked_untouched _ w.result w.ensures.ended w.ensures.order w.ensures.copies w.ensures.note (search rules) (search rules) (search rules) (search rules)) }

@@ -1,6 +1,6 @@
 use Rattle.std.proofs.Common.{subst, sym, ◌∙◌}
 use Rattle.sy_top.specs.Headline.{Tells}
-use Rattle.sy_top.proofs.Telling.{both, broken}
+use Rattle.sy_top.proofs.Telling.{both}
 use Rattle.sy_top.proofs.call.tell_both.Goals as goal
 
 pub returns : goal.returns

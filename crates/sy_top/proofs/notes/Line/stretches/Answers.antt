@@ -1,4 +1,4 @@
-use Rattle.std.proofs.Common.{◌≡◌, ◌++◌, ℕ, List, get_or, append-nil, append_assoc, sym, ap, ◌∙◌}
+use Rattle.std.proofs.Common.{◌++◌, ℕ, List, get_or, append-nil, append_assoc, sym, ap, ◌∙◌}
 use Rattle.sy_top.specs.Trace.{stretch_line, stretch_lines, stretches_of}
 use Rattle.sy_top.proofs.Stretches.{stretch, next_line, no_line}
 use Rattle.sy_top.proofs.notes.Line.stretches.Goals as goal
