@@ -5,8 +5,6 @@
 mod arguments;
 mod calls;
 mod library;
-#[cfg(test)]
-mod tests;
 
 pub use calls::call;
 pub use library::{construct, library_call, member_call, no_dimension_in_type, wide_in_type};

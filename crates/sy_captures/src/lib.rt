@@ -8,8 +8,6 @@ mod faults;
 mod given;
 mod lists;
 mod ranged;
-#[cfg(test)]
-mod tests;
 
 pub use bodies::{inside, seen_lambda};
 pub use captures::{add_captures, declare_captures, names_found};

@@ -8,8 +8,6 @@ mod names;
 mod nodes;
 mod places;
 mod settings;
-#[cfg(test)]
-mod tests;
 mod uses;
 mod whole;
 

@@ -5,8 +5,6 @@
 mod found;
 pub mod laws;
 mod parts;
-#[cfg(test)]
-mod tests;
 
 pub use found::Found;
 pub use parts::{Call, Place};

@@ -2,7 +2,5 @@
 #![tactic(auto)]
 
 mod parameters;
-#[cfg(test)]
-mod tests;
 
 pub use parameters::{first_dimensions, parameter, parameter_type, parameters_fit};

@@ -7,8 +7,6 @@ mod members;
 mod operators;
 mod settle;
 mod steps;
-#[cfg(test)]
-mod tests;
 mod walk;
 
 pub use leaves::{

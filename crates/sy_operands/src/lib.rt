@@ -4,8 +4,6 @@
 
 mod indexes;
 mod operators;
-#[cfg(test)]
-mod tests;
 
 pub use indexes::{group_barrier, subscript};
 pub use operators::{

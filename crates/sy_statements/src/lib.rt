@@ -6,8 +6,6 @@ mod expressions;
 mod literals;
 mod objects;
 mod statements;
-#[cfg(test)]
-mod tests;
 
 pub use declarations::{
     Given, Specifiers, declarator, declared_constant, declared_type, redeclaration, shared_after,

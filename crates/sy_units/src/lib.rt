@@ -6,8 +6,6 @@ mod constants;
 mod functions;
 mod held;
 mod parameters;
-#[cfg(test)]
-mod tests;
 
 pub use constants::constant;
 pub use functions::{
