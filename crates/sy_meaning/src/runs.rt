@@ -3,6 +3,7 @@
 use sqlite_items::Items;
 use sy_access::{Cell, Log, Needs, Numbers, Sizes, Values};
 use sy_range::Position;
+use sy_stack::{Stack, Table};
 use sy_work::{Answer, Ask, Command};
 
 /// Whose elements an accessor has: a root's, a local accessor's of the command group, or a host access's.
@@ -67,7 +68,7 @@ pub enum Step {
 
 #[derive(Drop)]
 pub struct Scope {
-    pub live: Items<Live>,
+    pub live: Stack<Live>,
 }
 
 /// A store of a phase: a cell that isn't listed is 0.
@@ -80,32 +81,32 @@ pub struct Store {
 /// before `turns`.
 #[derive(Drop)]
 pub struct World {
-    pub rows: Items<Row>,
+    pub rows: Table<Row>,
     /// The elements of each host access.
-    pub accesses: Items<Values>,
+    pub accesses: Table<Values>,
     /// What is to be ended, by scope: the innermost first, and in each the last made first.
-    pub scopes: Items<Scope>,
-    /// The threads that were joined.
-    pub joined: Numbers,
+    pub scopes: Stack<Scope>,
+    /// The threads that were joined, the last first.
+    pub joined: Stack<u32>,
     /// How many `try` are open.
     pub tries: u32,
     pub group: Option<Group>,
     pub turns: u64,
-    /// The answers that are left.
-    pub feed: Items<Answer>,
+    /// The answers that are left, the next first.
+    pub feed: Stack<Answer>,
     /// What was asked, with its answer, the last first.
-    pub asked: Items<(Ask, Answer)>,
+    pub asked: Stack<(Ask, Answer)>,
     pub at: Option<Position>,
     /// The store of the phase, and those of the phases after it.
     pub store: Store,
     pub later: Items<Store>,
     /// The steps of the phase, the last one first.
-    pub steps: Items<Step>,
+    pub steps: Stack<Step>,
 }
 
 /// Where a body is: the object of each declaration in the function that runs, and all else.
 #[derive(Drop)]
 pub struct Run {
-    pub frame: Items<Values>,
+    pub frame: Table<Values>,
     pub world: World,
 }
