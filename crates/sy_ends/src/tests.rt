@@ -43,30 +43,45 @@ fn stops_as_joinable(end: &Option<Ask>) -> bool {
     }
 }
 
-fn a_thread_stops_the_end(alloc: Global) -> Result<bool, AllocError> {
+/// A run with one scope, in which this lives.
+fn with_one_living(alloc: Global, object: Live) -> Result<Run, AllocError> {
     let mut run = empty_run(alloc);
     opened(alloc, &mut run.world)?;
-    lives(alloc, &mut run.world, Live::Row(4))?;
-    lives(alloc, &mut run.world, Live::Thread(5))?;
+    lives(alloc, &mut run.world, object)?;
+    Ok(run)
+}
+
+fn a_thread_stops_the_end(alloc: Global) -> Result<bool, AllocError> {
+    let mut run = with_one_living(alloc, Live::Thread(5))?;
     let end = end_scope(alloc, &mut run.world, 3)?;
-    let again = end_one(alloc, &mut run.world, 3, Live::Thread(5))?;
-    Ok(stops_as_joinable(&end) && stops_as_joinable(&again))
+    Ok(stops_as_joinable(&end))
+}
+
+fn a_thread_by_itself_stops(alloc: Global) -> Result<bool, AllocError> {
+    let mut run = empty_run(alloc);
+    let end = end_one(alloc, &mut run.world, 3, Live::Thread(5))?;
+    Ok(stops_as_joinable(&end))
+}
+
+fn is_break(flow: &Flow) -> bool {
+    matches!(flow, Flow::Broke(2))
+}
+
+fn is_value(value: &Evaluated) -> bool {
+    matches!(value, Evaluated::Gives(_))
 }
 
 fn a_scope_is_left(alloc: Global) -> Result<bool, AllocError> {
-    let mut run = empty_run(alloc);
-    opened(alloc, &mut run.world)?;
-    lives(alloc, &mut run.world, Live::Row(4))?;
+    let mut run = with_one_living(alloc, Live::Row(4))?;
     let closed = close_flow(alloc, &mut run, 3, Flow::Broke(2))?;
-    Ok(matches!(closed, Flow::Broke(2)) && run.world.scopes.is_empty())
+    Ok(is_break(&closed) && run.world.scopes.is_empty())
 }
 
 fn a_value_outlives_its_scope(alloc: Global) -> Result<bool, AllocError> {
-    let mut run = empty_run(alloc);
-    opened(alloc, &mut run.world)?;
+    let mut run = with_one_living(alloc, Live::Row(4))?;
     let value = Evaluated::Gives(Values::of(Vec::new(alloc)));
     let closed = close_value(alloc, &mut run, 3, value)?;
-    Ok(matches!(closed, Evaluated::Gives(_)) && run.world.scopes.is_empty())
+    Ok(is_value(&closed) && run.world.scopes.is_empty())
 }
 
 fn holds(case: Result<bool, AllocError>) -> bool {
@@ -77,8 +92,13 @@ fn holds(case: Result<bool, AllocError>) -> bool {
 }
 
 #[test]
-fn scopes_end(rt: HostRuntime) {
+fn threads_stop_ends(rt: HostRuntime) {
     assert!(rt; holds(a_thread_stops_the_end(rt.alloc())));
+    assert!(rt; holds(a_thread_by_itself_stops(rt.alloc())));
+}
+
+#[test]
+fn scopes_are_left(rt: HostRuntime) {
     assert!(rt; holds(a_scope_is_left(rt.alloc())));
     assert!(rt; holds(a_value_outlives_its_scope(rt.alloc())));
 }

@@ -70,16 +70,46 @@ fn rows_come_back(alloc: Global) -> Result<bool, AllocError> {
     Ok(counted == 3 && leased && free && row_values(&world, 0) == [8, 9, 3].as_slice())
 }
 
-fn the_last_made_is_next(alloc: Global) -> Result<bool, AllocError> {
+/// A world with one scope, in which a vector lives and then a thread.
+fn with_two_living(alloc: Global) -> Result<World, AllocError> {
     let mut world = empty_world(alloc);
     opened(alloc, &mut world)?;
     lives(alloc, &mut world, Live::Row(4))?;
     lives(alloc, &mut world, Live::Thread(5))?;
+    Ok(world)
+}
+
+fn is_thread(object: Option<Live>) -> bool {
+    matches!(object, Some(Live::Thread(5)))
+}
+
+fn is_row(object: Option<Live>) -> bool {
+    matches!(object, Some(Live::Row(4)))
+}
+
+fn the_last_made_is_next(alloc: Global) -> Result<bool, AllocError> {
+    let mut world = with_two_living(alloc)?;
+    Ok(is_thread(next_living(alloc, &mut world)?))
+}
+
+fn the_first_made_is_last(alloc: Global) -> Result<bool, AllocError> {
+    let mut world = with_two_living(alloc)?;
+    let last = is_thread(next_living(alloc, &mut world)?);
+    let first = is_row(next_living(alloc, &mut world)?);
+    Ok(last && first)
+}
+
+fn an_empty_scope_is_left(alloc: Global) -> Result<bool, AllocError> {
+    let mut world = empty_world(alloc);
+    opened(alloc, &mut world)?;
+    let end = next_living(alloc, &mut world)?;
+    Ok(end.is_none() && world.scopes.is_empty())
+}
+
+fn a_joined_thread_is_known(alloc: Global) -> Result<bool, AllocError> {
+    let mut world = empty_world(alloc);
     joined(&mut world, 5)?;
-    let last = matches!(next_living(alloc, &mut world)?, Some(Live::Thread(5)));
-    let first = matches!(next_living(alloc, &mut world)?, Some(Live::Row(4)));
-    let end = next_living(alloc, &mut world)?.is_none();
-    Ok(last && first && end && world.scopes.is_empty() && is_joined(&world, 5))
+    Ok(is_joined(&world, 5))
 }
 
 fn number_of(world: &mut World, reply: Reply) -> u32 {
@@ -116,7 +146,14 @@ fn objects_are_kept_at_their_numbers(rt: HostRuntime) {
 }
 
 #[test]
-fn scopes_and_asks(rt: HostRuntime) {
+fn scopes_end_their_objects(rt: HostRuntime) {
     assert!(rt; holds(the_last_made_is_next(rt.alloc())));
+    assert!(rt; holds(the_first_made_is_last(rt.alloc())));
+    assert!(rt; holds(an_empty_scope_is_left(rt.alloc())));
+}
+
+#[test]
+fn threads_and_asks(rt: HostRuntime) {
+    assert!(rt; holds(a_joined_thread_is_known(rt.alloc())));
     assert!(rt; holds(an_ask_is_answered(rt.alloc())));
 }
