@@ -1,18 +1,14 @@
 -- How the parts of an expression or a statement go on, or end it.
-use Rattle.std.proofs.Common.{◌≡◌, ap, subst, sym, ◌∙◌, refl}
-use Rattle.std.specs.Prelude.{Err, List, None, Ok, Option, Result, Some, ⊤, ℕ, ◌∷◌}
-use Rattle.sy_meaning.specs.Ends.{close_flow, close_value, in_full, in_scope}
-use Rattle.sy_meaning.specs.Frame.{opened}
-use Rattle.sy_meaning.specs.Outcomes.{Ex, Flowed, Listed, Op, St, Valued, and_then, in_turn, in_world, inside, then_do, with_list, with_value}
-use Rattle.sy_meaning.specs.Statements.{Again}
+use Rattle.std.proofs.Common.{◌≡◌, ap, subst, sym}
+use Rattle.std.specs.Prelude.{Err, Result}
+use Rattle.sy_meaning.specs.Outcomes.{Ex, Flowed, Op, St, Valued, and_then, in_world, inside, then_do, with_value}
 use Rattle.sy_meaning.specs.Words.{Object}
 use Rattle.sy_meaning.specs.declared.outcomes.Evaluated.{Evaluated}
-use Rattle.sy_meaning.specs.declared.outcomes.Evaluated.TheVariants.{Gives, Stopped, Threw}
-use Rattle.sy_meaning.specs.declared.outcomes.Flow.{Flow}
+use Rattle.sy_meaning.specs.declared.outcomes.Evaluated.TheVariants.{Gives}
 use Rattle.sy_meaning.specs.declared.outcomes.Flow.TheVariants as flow
 use Rattle.sy_meaning.specs.declared.runs.Run.{Run}
 use Rattle.sy_meaning.specs.declared.runs.World.{World}
-use Rattle.sy_outcomes.specs.Comes.{Evaluates, Executes, Leaves, Passes}
+use Rattle.sy_outcomes.specs.Comes.{Evaluates, Executes, Leaves}
 use Rattle.sy_outcomes.specs.declared.exits.Exit.{Exit}
 use Rattle.sy_outcomes.specs.declared.exits.Exit.TheVariants as exit
 use Rattle.sy_outcomes.specs.declared.stops.Stop.{Stop}
